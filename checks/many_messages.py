@@ -3,11 +3,11 @@
 
     checks/many_messages.py PROGRAM
 
-A capture has at most 2^20 messages, a traffic text any number. Two of these have 2^22 + 2, each in a record of its own. Where all come at tick 0, only
-the first is let in. Where they come a tick after each other, all are: the service is 201 ticks, so the n-th (from 0) is
-finished at 201 (n + 1), and its sample is 200 n + 201; a control looks at the last sample alone, after each 4,096. The
-first text without its last line is a fault of the record after so many; of a capture of them the table has the rows
-within the limit. The expected texts are counted up from this.
+A capture has at most 2^20 messages, a traffic text any number. Two of these have 2^22 + 2, each in a record of its own.
+Where all come at tick 0, only the first is let in. Where they come a tick after each other, all are: the service is 201
+ticks, so the n-th (from 0) is finished at 201 (n + 1), and its sample is 200 n + 201; a control looks at the last sample
+alone, after each 4,096. The first text without its last line is a fault of the record after so many; of a capture of
+them the table has the rows within the limit. The expected texts are counted up from this.
 Prints a line for each run, and exits with 1 where one is wrong.
 """
 import itertools

@@ -32,19 +32,22 @@ The input is either of
 
   packets of both directions (pcap, pcapng) to the ports of --port: tcpdump -i any -w FILE tcp port 80
   a log in the format `timed`, or in another that --log-format names or writes out, as for
-    tools/capture_from_log.py; it has to tell the time of the answer and how long it took, both in
-    milliseconds or better, status and bytes. `timed` is
+    tools/capture_from_log.py (haproxy, caddy, combined_us ..); it has to tell the time and the
+    duration, both in milliseconds or better, status and bytes. `timed` is
     %s
 
 Either may be compressed, or - for standard input.
 
-A request's time is from its last byte to its answer's last byte. Answers 503 and 499 are left out:
-these were turned away, or nobody waited for them. So are connections that aren't HTTP, or no longer
-are (TLS, WebSocket). SETTINGS gets a document with the [costs] that fit best, and with the number of
-servers (1, 2, 4, 8, 16) and the delay of each answer where these aren't the defaults. Where a server
-works longer than a second on an answer, it gets a route for all paths in the place of the costs, with
-one cost for any answer. PAGE shows how well this predicts what was measured, and how well one server
-without a delay does.
+A request's time is from its last byte to its answer's last byte; of HAProxy's log Tw + Tc + Tr, from
+the whole request to the answer's head. Apache's %%D begins when a worker takes the request: a wait
+for a free worker isn't in it. Where Apache's time (%%t) has whole seconds, durations are taken for
+work without waits, and nothing tells how many servers there are. Answers 503 and 499 are left out:
+these were turned away, or nobody waited for them. So are lines that lack one of these fields, and
+connections that aren't HTTP, or no longer are (TLS, WebSocket). SETTINGS gets a document with the
+[costs] that fit best, and with the number of servers (1, 2, 4, 8, 16) and the delay of each answer
+where these aren't the defaults. Where a server works longer than a second on an answer, it gets a
+route for all paths in the place of the costs, with one cost for any answer. PAGE shows how well this
+predicts what was measured, and how well one server without a delay does.
 
 How: costs are first estimated by the requests that found nobody inside; the pace at which answers
 leave while somebody is always inside tells how many servers there are; then for each number of
@@ -70,6 +73,12 @@ HEADINGS = {"costs.": "[costs]\n", "route.": '[[route]]\nprefix = "/"\n'}  # of 
 DEARER = 1.08  # costs so many times higher show how much rests on them
 PIECES = 40  # pieces of the time, or of the sizes, in a picture
 TICKS_IN_MILLISECOND = 1000
+
+BEGUN = ("NOTE: Apache's times begin when a worker takes a request: how long it waited for a free worker is in none of "
+         "them")
+WHOLE_SECONDS = ("WARNING: the log has whole seconds: the durations are taken for work, without any wait, and how many "
+                 "requests the server works on at once can't be told; take a time with little load, and set "
+                 "costs.servers yourself, or log %{usec}t")
 
 # A fit, the times that it predicts, by how much it misses each of their percentiles in percent, and by how much those
 # of the last third where it was fitted on the first two.
@@ -150,9 +159,9 @@ def dearer(requests, fit):
 
 def in_words(fit):
     """A fit in words."""
-    return "%d server%s, %s: %s microseconds" % (
-        fit.servers, "s" * (fit.servers > 1), "delay %d" % fit.delay if fit.delay else "no delay",
-        costs_in_words(fit.costs))
+    servers = "%d server%s" % (fit.servers, "s" * (fit.servers > 1)) if fit.servers else "nobody waits"
+    return "%s, %s: %s microseconds" % (
+        servers, "delay %d" % fit.delay if fit.delay else "no delay", costs_in_words(fit.costs))
 
 
 def costs_in_words(costs):
@@ -165,8 +174,26 @@ def missed_in_words(errors):
     return ", ".join("%s %+d%%" % (name, round(error)) for name, error in zip(NAMES, errors))
 
 
-def remarks(requests, best, single):
+def remarks(requests, best, single, recorded):
     """What is to be known about a fit, a line each."""
+    lines = [BEGUN] if recorded.is_begun else []
+    lines += remarks_on_load(requests, best) if recorded.is_exact else [WHOLE_SECONDS]
+    worst = max(abs(best.missed[:3]))
+    if worst > POOR:
+        lines.append("WARNING: the held-out check fails: don't rely on these costs. The server isn't one that costs "
+                     "describe; perhaps others work on its machine, or its clients do")
+    elif worst > GOOD:
+        lines.append("NOTE: the held-out check misses by more than %d%%" % GOOD)
+    if cost_fit.keys_of(best.fit.costs) == cost_fit.ROUTE_KEYS:
+        lines.append("a server works longer on an answer than costs.file and costs.error can tell: the settings have a "
+                     "route for all paths, with one cost for any answer")
+    if recorded.is_exact:
+        lines.append(written(best, single))
+    return lines
+
+
+def remarks_on_load(requests, best):
+    """What is to be known about the load that a fit was made on, a line each."""
     met = (cost_fit.found_inside(requests) > 0).mean()
     share, load = busy_share(requests), load_of(requests, best.fit)
     lines = ["somebody was inside for %.0f%% of the time; by the best fit its servers worked for %.0f%%" % (
@@ -178,16 +205,6 @@ def remarks(requests, best, single):
     if met < MET:
         lines.append("WARNING: only %.1f%% of the requests found another inside: how many the server can answer is a "
                      "guess, and nobody can tell it from this recording; record a busier time" % (100 * met))
-    worst = max(abs(best.missed[:3]))
-    if worst > POOR:
-        lines.append("WARNING: the held-out check fails: don't rely on these costs. The server isn't one that costs "
-                     "describe; perhaps others work on its machine, or its clients do")
-    elif worst > GOOD:
-        lines.append("NOTE: the held-out check misses by more than %d%%" % GOOD)
-    if cost_fit.keys_of(best.fit.costs) == cost_fit.ROUTE_KEYS:
-        lines.append("a server works longer on an answer than costs.file and costs.error can tell: the settings have a "
-                     "route for all paths, with one cost for any answer")
-    lines.append(written(best, single))
     return lines
 
 
@@ -255,12 +272,12 @@ def ninetieth_of(keys, times, edges):
 
 def picture(title, label, places, lines, is_log=False):
     """A picture of lines of times in milliseconds, as HTML."""
-    figure, axes = pages.axes_of(len(lines))
+    figure, (axes,) = pages.axes_of(len(lines))
     pages.draw_lines(axes, places, lines)
     axes.set_xlabel(label)
     axes.set_xscale("log" if is_log else "linear")
     axes.set_ylim(bottom=0)
-    pages.add_legend(axes, len(lines))
+    pages.add_legend([axes], len(lines))
     return "<h2>%s, milliseconds</h2>\n%s" % (title, pages.svg_of(figure))
 
 
@@ -291,7 +308,9 @@ def pictures_of(requests, fits):
 
 def page_of(options, requests, best, single, lines):
     """The page."""
-    fits = [("one server", single)] if single is best else [("best fit", best), ("one server", single)]
+    fits = [("best fit", best), ("one server", single)]
+    if single is best:
+        fits = fits[1:] if best.fit.servers else fits[:1]
     rows = [["measured", "", *in_milliseconds(percentiles(cost_fit.times(requests))), *[""] * len(NAMES)]]
     rows += [[name, html.escape(in_words(one.fit)), *in_milliseconds(percentiles(one.predicted)),
               *("%+d%%" % round(error) for error in one.missed)] for name, one in fits]
@@ -308,8 +327,12 @@ def is_beyond_costs(fit):
                for part in (cost_fit.FILE, cost_fit.ERROR))
 
 
-def fits_of(requests):
-    """The best fit of all, and the best with one server and no delay, which is the same where that is the best."""
+def fits_of(requests, is_exact):
+    """The best fit of all, and the best with one server and no delay, which is the same where that is the best; and
+    what the costs were estimated by at first. Of arrivals in whole seconds the times alone are fitted."""
+    if not is_exact:
+        best = judged(requests, cost_fit.fit_of_services(requests))
+        return best, best, "fitted to the durations alone"
     alone, count = cost_fit.costs_alone(requests)
     pace = cost_fit.servers_by_pace(requests, alone)
     early = cost_fit.part_of(requests, 0, 2 * len(requests.arrivals) // 3)
@@ -327,22 +350,23 @@ def work(options):
     """Does what the command line says."""
     output_file.refuse_same([path for path in (options.output, options.page) if path],
                             input_files.descriptors([options.input]))
-    measured, left_out = measured_times.of_file(options.input, options.port, options.log_format)
+    recorded = measured_times.of_file(options.input, options.port, options.log_format)
+    counts = ["%d %s" % (count, name) for name, count in recorded.left_out.items() if count]
     try:
-        requests = requests_of(measured)
+        requests = requests_of(recorded.measured)
     except Fault as fault:
-        counts = ", ".join("%d %s" % (count, name) for name, count in left_out.items() if count)
-        raise Fault("%s: %s%s" % (options.input, fault, "; left out: " + counts if counts else "")) from None
-    best, single, first = fits_of(requests)
+        left_out = "; left out: " + ", ".join(counts) if counts else ""
+        raise Fault("%s: %s%s" % (options.input, fault, left_out)) from None
+    best, single, first = fits_of(requests, recorded.is_exact)
     if is_beyond_costs(best.fit):
         requests = cost_fit.on_route(requests)
-        best, single, first = fits_of(requests)
+        best, single, first = fits_of(requests, recorded.is_exact)
     answered = len(requests.arrivals)
-    counts = ["%d answered 503 or 499" % (len(measured) - answered)] if len(measured) > answered else []
-    counts += ["%d %s" % (count, name) for name, count in left_out.items() if count]
+    refused = len(recorded.measured) - answered
+    counts = ["%d answered 503 or 499" % refused] * (refused > 0) + counts
     lines = ["%d requests in %.1f seconds%s" % (
         answered, requests.arrivals[-1] / 1e6, "; left out: " + ", ".join(counts) if counts else ""), first,
-        *summary_of(best, single), *remarks(requests, best, single)]
+        *summary_of(best, single), *remarks(requests, best, single, recorded)]
     try:
         document = document_of(requests, best, lines)
     except Fault as fault:

@@ -1,6 +1,6 @@
 #!/usr/bin/python3
-"""Turns access logs (nginx's or Apache's, by formats with names or a given one) into a capture or a traffic text that
-Haboob replays.
+"""Turns access logs (of nginx, Apache, HAProxy or Caddy, by formats with names or a given one) into a capture or a
+traffic text that Haboob replays.
 
 Exits with 0; with 1 at a fault, which is one line on standard error and leaves an older output as it was; with 2 where
 the words are wrong; with 130 at Ctrl-C.
@@ -26,21 +26,23 @@ Logs may be several (rotated ones are put in the order of their first lines), co
 xz; Zstandard where Python reads it), and - is standard input.
 
 What a log can't tell, and what stands in its place:
-  heads         the request line; Host from $http_host or $host, else --host; and, where the log
-                has them, Referer, User-Agent, If-Modified-Since and If-None-Match. Without the last
-                two, no request is conditional.
+  heads         the request line; Host from $http_host or $host (HAProxy's log has it of HTTP/2
+                alone), else --host; and, where the log has them, Referer, User-Agent,
+                If-Modified-Since and If-None-Match. Without the last two, no request is conditional.
   version       HTTP/2.0 and later are written as HTTP/1.1; an HTTP/1.0 request gets
                 Connection: keep-alive, since others follow under its number
   bodies        none: a POST comes without its body and without Content-Length
   connections   each request is one of its own, for --sample too. They get the numbers 0 to 65,535 in
                 turn; so in a long log several requests of one tier follow one another under
                 one number, as over a connection that is kept alive, in a traffic text too.
-  time          nginx logs when the answer was sent: with $request_time the request came so much
-                earlier, and is put there. Apache's %t is when the request came (with end: it is the
-                answer's, and %D or %T is taken off). Without $msec (%{msec}t, %{usec}t) the log has
-                whole seconds: the requests of a second are spread evenly over it, in the log's order.
-                So bursts within a second are lost, and waits come out too short: p99 was 5.1 ms in
-                such a replay where the server's was 22 ms.
+  time          nginx and Caddy log when the answer was sent: with $request_time the request came so much
+                earlier, and is put there. Apache's %t is when a worker took the request (with end:
+                it is the answer's, and %D or %T is taken off): a wait for a free worker is in none
+                of them, so of a server whose workers were all busy requests come too late.
+                HAProxy's is when the request was whole, taken for UTC. Without $msec (%{msec}t,
+                %{usec}t) the log has whole seconds: the requests of a second are spread evenly over
+                it, in the log's order. So bursts within a second are lost, and waits come out too
+                short: p99 was 5.1 ms in such a replay where the server's was 22 ms.
 
 --log-format takes the name of a format, or one in nginx's notation ($msec "$request" ..) or Apache's
 (%h %{msec}t "%r" ..). It needs $request, or $request_method and $request_uri (%r, or %m and %U%q);
@@ -49,16 +51,19 @@ fits most of the first lines is taken:
   timed           combined, and then $msec $request_time $host "$http_if_modified_since"
                   "$http_if_none_match": a log that is as good as recorded packets
   vhost_combined  Debian's Apache: host:port, and then combined
+  combined_us     Apache's combined, and then %D, which is microseconds
   combined        combined, also with other fields after it (as in the `main` of many distributions)
   common          without Referer and User-Agent
+  haproxy         HAProxy's `option httplog` and `option httpslog`, also behind what syslog writes
+  caddy           Caddy's access log in JSON, with ts and duration in seconds
   json            a JSON object a line, with nginx's names of variables as keys
 
-Left out, and counted: lines of another format; lines whose time stands alone, far from that of all
-lines near them, or whose request took more than a day; lines whose request isn't a method, a target
-of visible ASCII characters and a version, or whose head is longer than 8,192 bytes (the answer would
-be 400, and the connection closed); fields with control characters. More than a hundredth of the
-lines in another format, more than a tenth left out in all, or more than what is written has room for,
-is a fault; --lenient writes the capture all the same.
+Left out, and counted: lines of another format; lines that lack the time or the request; lines whose
+time stands alone, far from that of all lines near them, or whose request took more than a day; lines
+whose request isn't a method, a target of visible ASCII characters and a version, or whose head is
+longer than 8,192 bytes (the answer would be 400, and the connection closed); fields with control
+characters. More than a hundredth of the lines in another format, more than a tenth left out in all,
+or more than what is written has room for, is a fault; --lenient writes the capture all the same.
 
 """ + capture_writer.FORMATS_EXPLAINED + capture_writer.SAMPLE_EXPLAINED + capture_writer.TIERS_EXPLAINED + """\
 The client's address is $remote_addr, which the format then needs.
@@ -75,7 +80,8 @@ TOLD_REQUESTS = 1_000  # after so many progress is told
 SHOWN = 80  # bytes of a line that are shown
 OTHERS_PART = 100  # one in so many lines may be of another format
 LEFT_OUT_PART = 10  # one in so many may be left out in all
-FAULTY = (log_requests.NO_FIT, log_requests.JUMPS, log_requests.TOO_LONG, log_requests.NO_REQUEST)
+FAULTY = (log_requests.NO_FIT, log_requests.JUMPS, log_requests.TOO_LONG, log_requests.NO_REQUEST,
+          log_formats.WITHOUT % "")
 SAMPLED = "requests between the sampled ones"
 WHOLE_SECONDS = (
     "the log has whole seconds, over each of which its requests are spread evenly: bursts within a second are lost, "
@@ -160,7 +166,8 @@ class Totals:
 
     def faults(self):
         """What is too much to be left out, in words; a list of texts."""
-        other, faulty = self.left_out[log_requests.NO_FIT], sum(self.left_out[kind] for kind in FAULTY)
+        other = self.left_out[log_requests.NO_FIT]
+        faulty = sum(number for kind, number in self.left_out.items() if kind.startswith(FAULTY))
         if other * OTHERS_PART <= self.lines and faulty * LEFT_OUT_PART <= self.lines:
             return []
         counts = capture_writer.listed({name: number for name, number in self.counts().items()

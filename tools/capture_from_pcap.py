@@ -18,6 +18,7 @@ import command_line
 import input_files
 import output_file
 import packet_files
+import request_text
 from packet_files import dpkt
 from tool_run import Fault
 
@@ -31,6 +32,11 @@ has acknowledged them, the connection or the file ends, or 1 MiB waits), the con
 Ticks are microseconds from the first packet to a server port. A connection gets the next number when
 its first bytes come (in a traffic text the smallest that no open one has), and ends at the client's
 FIN or at a RST from either side. Only packets to the server are needed.
+
+A replay refuses a request whose body comes in chunks or has more than 65,536 bytes, or whose head has
+more than 8,192, and the rest of its connection with it. So such a request is written, and counted,
+without its body: with the same method and target, and of a long head with the fields on which an
+answer depends; it comes where its body ends. --as-recorded keeps the bytes as they are.
 
 Files may be several, whose packets are taken by their times, and compressed (gzip, bzip2, xz;
 Zstandard where Python reads it); - is standard input.
@@ -90,12 +96,12 @@ class Stream:
     A byte's place is its distance from the first byte. So sequence numbers may wrap (RFC 9293, 3.4).
     """
 
-    def __init__(self, sequence, middle, remover):
-        """Takes the first byte's sequence number, whether the connection's begin isn't there, and what takes fields
-        out of its requests, if any."""
+    def __init__(self, sequence, middle, editor):
+        """Takes the first byte's sequence number, whether the connection's begin isn't there, and what takes something
+        out of its requests, if anything does."""
         self.first = sequence % SEQUENCES
         self.middle = middle
-        self.remover = remover
+        self.editor = editor
         self.place = 0  # of the next byte in order
         self.waiting = []  # a heap of places and bytes after the next byte
         self.waiting_bytes = 0
@@ -204,8 +210,10 @@ class Conversion:
 
     def new_stream(self, sequence, middle):
         """The stream of a connection whose first byte has this sequence number."""
-        remover = capture_writer.FieldRemover(self.options.without) if self.options.without else None
-        return Stream(sequence, middle, remover)
+        options, editor = self.options, None
+        if options.without or not options.as_recorded:
+            editor = request_text.RequestEditor(options.without, not options.as_recorded, self.remarks)
+        return Stream(sequence, middle, editor)
 
     def send(self, time, stream, data, client):
         """Writes bytes that are in order; the first ones decide whether the connection is taken, and its tier."""
@@ -220,7 +228,7 @@ class Conversion:
             stream.number = LEFT_OUT if number is None else number
             self.remarks[MIDDLE] += stream.middle and number is not None
         if stream.number != LEFT_OUT:
-            data = stream.remover.feed(data) if stream.remover else data
+            data = stream.editor.feed(data) if stream.editor else data
             self.writer.piece(time - self.writer.first, stream.number, data)
 
     def tier_of(self, client, data):
@@ -249,7 +257,7 @@ class Conversion:
             self.closed.popitem(last=False)
         self.count_begin(stream)
         self.remarks[reason] += (reason == CUT or stream.has_hole()) and stream.number != LEFT_OUT
-        stream.waiting, stream.remover = [], None
+        stream.waiting, stream.editor = [], None
         if stream.number not in (None, LEFT_OUT):
             self.writer.end(time - self.writer.first, stream.number)
 
@@ -374,6 +382,8 @@ def arguments():
     parser.add_argument("inputs", nargs="+", metavar="PACKETS", help="the recorded packets; - reads standard input")
     parser.add_argument("--port", type=capture_writer.count, action="append", required=True,
                         help="a port of the server; may be given several times")
+    parser.add_argument("--as-recorded", action="store_true",
+                        help="keep bodies and long heads that a replay refuses, bytes as they are")
     capture_writer.add_common_options(parser)
     return parser.parse_args()
 

@@ -67,52 +67,6 @@ def body_length(block):
     return int(digits) if 0 < len(digits) <= BODY_DIGITS else 0
 
 
-class FieldRemover:
-    """Takes fields out of the heads of one connection's text, and leaves its bodies as they are.
-
-    The begin of a line is held until the line ends; so each head ends in the same piece as without this.
-    """
-
-    def __init__(self, names):
-        """Takes the names of the fields, of which there is at least one."""
-        self.field = re.compile(b"(?:%b)[ \t]*:" % b"|".join(map(re.escape, names)), re.IGNORECASE)
-        self.line = b""  # the begin of a line that hasn't ended
-        self.head = b""  # the lines so far of a head that hasn't ended
-        self.body = 0  # bytes of a body that are still to come
-        self.removes = False  # whether the last line was taken out, and so the lines that continue it are
-
-    def feed(self, data):
-        """Takes the connection's next bytes, and returns those that stay."""
-        text, at, kept = self.line + data, 0, []
-        self.line = b""
-        while at < len(text):
-            if self.body:
-                end = at + min(self.body, len(text) - at)
-                self.body -= end - at
-                kept.append(text[at:end])
-            else:
-                end = text.find(b"\n", at) + 1 or len(text)
-                kept.append(self._take(text[at:end]))
-            at = end
-        return b"".join(kept)
-
-    def _take(self, line):
-        """Takes a line of a head, or the begin of one; returns what stays of it."""
-        if len(self.head) + len(line) > BLOCK_LIMIT:  # the server closes the connection here
-            return line
-        if not line.endswith(b"\n"):
-            self.line = line
-            return b""
-        if not line.rstrip(b"\r\n"):
-            self.body = body_length(self.head + line) if self.head else 0
-            self.head, self.removes = b"", False
-            return line
-        if self.head and line[:1] not in (b" ", b"\t"):
-            self.removes = self.field.match(line) is not None
-        self.head += line
-        return b"" if self.removes else line
-
-
 class CaptureWriter:
     """Writes one capture or traffic text, record by record, so that its rules hold (docs/FORMATS.md, Capture and
     Traffic; docs/RULES.md, Limits).

@@ -21,6 +21,7 @@ BYTES_IN_KIB = 1024
 FILES = (200, 206)  # statuses of answers that carry a file; 304 costs one, too
 NOT_MODIFIED = 304
 SERVERS = (1, 2, 4, 8, 16)
+ENOUGH = 0  # in the place of their number: so many that nobody waits
 MODELS = 2 * len(SERVERS)  # each without and with a delay
 WINDOW = 20  # departures over which the pace of a server that is never empty is taken
 LEAST_WINDOWS = 20
@@ -67,6 +68,8 @@ def times(requests):
 
 def finishes(arrivals, services, servers):
     """When each request is answered by so many servers, first come, first served."""
+    if servers == ENOUGH:
+        return arrivals + services
     if servers == 1:
         done = numpy.cumsum(services)
         return done + numpy.maximum.accumulate(arrivals - (done - services))
@@ -149,6 +152,12 @@ def costs_busy(requests):
         else:
             place += 1
     return median_regression(numpy.array(works), numpy.array(spans)) if len(works) >= LEAST_WINDOWS else None
+
+
+def fit_of_services(requests):
+    """The fit of times that hold no waits."""
+    alone = median_regression(requests.work, times(requests))
+    return fitted(busiest(requests, MOST_IN_CHOICE), ENOUGH, False, [(alone, 0.0)])
 
 
 def servers_by_pace(requests, alone):

@@ -26,6 +26,9 @@ REPORT_BEGIN = "haboob-report 1\n"
 REPORT_END = "end\n"
 REPORTED = ("admitted", "rejected", "p50", "p90", "p99")
 REFUSED = 3  # the program's status where the settings are at fault
+MISSING = 404  # the status of a request for what the snapshot doesn't have
+OF_FILES = (200, 301, 304, MISSING)  # those of requests that looked for a file
+LEAST_ASKED = 10  # requests by which a snapshot is judged
 LINE_LIMIT = 1_000  # bytes that are read of what the program says
 DIGEST = "sha256"
 
@@ -97,6 +100,14 @@ def rows_of(file):
         yield row
 
 
+def strange_snapshot(asked, missing):
+    """A warning where nine in ten of the requests that looked for a file found none; else None."""
+    if asked < LEAST_ASKED or 10 * missing < 9 * asked:
+        return None
+    return ("WARNING: of %d requests for files %d ask for what the snapshot doesn't have: is it that of another site? "
+            "(What is no file wants a route in the settings)" % (asked, missing))
+
+
 def ranked(samples, percent):
     """The sample at rank ceil(percent * m / 100) of m sorted ones, as in the report; None of none."""
     return samples[-(-percent * len(samples) // 100) - 1] if samples else None
@@ -140,6 +151,7 @@ class Tally:
         self.tiers = collections.defaultdict(TierTally)
         self.queue = Queue()
         self.inside = 0  # the most requests that were admitted and not yet answered
+        self.asked = self.missing = 0  # admitted requests that looked for a file, and those of them that found none
         self.busy = 0  # for how long the virtual servers worked, all added up
         self.first = None  # the tick of the first request
         self.last = 0  # when the last service ended
@@ -153,6 +165,8 @@ class Tally:
         if row.decision == "admitted":
             self.last = max(self.last, row.finish)
             self.busy += row.finish - row.start
+            self.asked += row.status in OF_FILES
+            self.missing += row.status == MISSING
             complete = row.finish + self.delays.of(row.target)
             tier.samples.append(complete - row.tick)
             self.inside = max(self.inside, self.queue.admit(row.tick, complete))
@@ -165,6 +179,7 @@ class Tally:
         greatest = max((max(tier.samples) for tier in self.tiers.values() if tier.samples), default=None)
         return {"rejected_while_idle": sum(tier.idle for tier in self.tiers.values()), "greatest": greatest,
                 "most_inside": self.inside, "busy": self.busy, "span": self.last - self.first if self.busy else 0,
+                "asked": self.asked, "missing": self.missing,
                 "tiers": {str(number): tier.figures() for number, tier in sorted(self.tiers.items())}}
 
 

@@ -37,9 +37,9 @@ LONGEST = 20  # seconds of the processor's time
 LONGEST_WAIT = 600  # seconds
 LARGEST = 40_000  # bytes that are taken of a stored file
 OLDER = b"older"
-FORMATS = ("timed", "combined", "common", "vhost_combined", "json", "$msec $request", '$1msec "$request"',
-           '$remote_addr - $remote_user [$time_local] "$request" $status', "%h %{usec}t %{end:usec}t %D %r",
-           '%h %l %u %t \\"%r\\" %>s %b')
+FORMATS = ("timed", "combined", "common", "vhost_combined", "haproxy", "caddy", "json", "$msec $request",
+           '$1msec "$request"', '$remote_addr - $remote_user [$time_local] "$request" $status',
+           "%h %{usec}t %{end:usec}t %D %r", '%h %l %u %t \\"%r\\" %>s %b')
 NUMBERS = (b"0", b"-1", b"2090", b"99999999999999999999999", b"1795661743.674", b"1e999", b"\xd9\xa3")
 PIECES = (b"\0", b"\n", b"\r\n", b"\xff\xfe", b'"', b"\\", b"[" * 3000, b"{" * 3000, b" " * 200, b"\\x0a",
           b"x" * 70_000)

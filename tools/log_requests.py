@@ -10,7 +10,8 @@ import pickle
 import re
 
 import capture_writer
-from log_formats import DURATIONS, TIMES
+import log_formats
+from log_formats import ABSENT, DURATIONS, TIMES, WITHOUT
 
 LINE_LIMIT = 65_536  # bytes; a longer line doesn't fit
 RUN_LENGTH = 100  # requests that are packed together
@@ -33,7 +34,6 @@ FIELDS = {
     "http_referer": b"Referer", "http_user_agent": b"User-Agent", "http_if_modified_since": b"If-Modified-Since",
     "http_if_none_match": b"If-None-Match",
 }
-ABSENT = (b"", b"-", None)
 KEPT_VERSIONS = (b"1.0", b"1.1")
 HEAD_ENDS = {b"1.0": b"Connection: keep-alive\r\n\r\n"}  # of other versions the empty line
 NO_REQUEST = "lines whose request isn't sound"
@@ -44,6 +44,8 @@ OUTSIDE = "requests before --from or after --to"
 CONTROLS = "fields with control characters"
 BODIES = "requests with a method that has bodies, written without"
 LATER_VERSIONS = "requests of later versions, written as HTTP/1.1"
+NO_DURATION = "requests without %s, taken as if they took no time"
+NO_HOST = "requests without %s, written with that of --host"
 
 # Lines of a log (bytes, LF after each but perhaps the last), the name of its file, the number of its first line, and
 # the lines next to it on both sides.
@@ -158,6 +160,8 @@ class RequestReader:
         self.time = TIMES[self.time_name]
         durations = [name for name in DURATIONS if name in form.names] if self.time.answered else []
         self.duration_name = durations[0] if durations else None
+        self.needed = [self.time_name, *next(names for names in log_formats.REQUEST_NAMES if names <= set(form.names))]
+        self.hosts = [name for name in ("http_host", "host") if name in form.names]
         self.host = options.host.encode()
         without = {name.lower() for name in options.without}
         self.fields = [(name, field) for name, field in FIELDS.items()
@@ -173,8 +177,8 @@ class RequestReader:
         """Time and duration of a line, in microseconds; None where it tells no such time."""
         time, duration = self.time.read(values.get(self.time_name, b"")), 0
         if self.duration_name:
-            value = values.get(self.duration_name, b"-")
-            duration = 0 if value == b"-" else DURATIONS[self.duration_name](value)
+            value = values.get(self.duration_name)
+            duration = 0 if value in ABSENT else DURATIONS[self.duration_name](value)
         return None if time is None or duration is None else (time, duration)
 
     def line(self, line):
@@ -182,6 +186,12 @@ class RequestReader:
         values = self.form.values(line) if len(line) <= LINE_LIMIT else None
         times = self.times_of(values) if values else None
         return times and (values, *times)
+
+    def reason(self, line):
+        """Why a line that doesn't fit is left out: it lacks a field, or is of another format."""
+        values = self.form.values(line) if len(line) <= LINE_LIMIT else None
+        name = values and log_formats.lacking(values, self.needed)
+        return WITHOUT % self.form.shown[name] if name else NO_FIT
 
     def times_near(self, lines):
         """The times of some lines that fit."""
@@ -192,13 +202,14 @@ class RequestReader:
         lines = block.text.split(b"\n")
         if not lines[-1]:
             lines.pop()
-        read = [self.line(line.rstrip(b"\r")) for line in lines]
+        lines = [line.rstrip(b"\r") for line in lines]
+        read = [self.line(line) for line in lines]
         before, after = self.times_near(block.before), self.times_near(block.after)
         times = before + [found[1] for found in read if found] + after
         alone = jumps_of(times, len(before), len(times) - len(after))
         part, place = Part(len(lines)), len(before)
-        for number, found in enumerate(read, block.number):
-            kind = NO_FIT if not found else JUMPS if place in alone else self.take(found, part)
+        for number, (line, found) in enumerate(zip(lines, read), block.number):
+            kind = self.reason(line) if not found else JUMPS if place in alone else self.take(found, part)
             place += found is not None
             if kind:
                 part.leave_out(kind, block.name, number)
@@ -216,7 +227,8 @@ class RequestReader:
             return OUTSIDE
         head = self.head_of(values, part)
         if head is None:
-            return NO_REQUEST
+            name = log_formats.lacking(values, self.needed)
+            return WITHOUT % self.form.shown[name] if name else NO_REQUEST
         client = client_of(values.get("remote_addr") or b"") if self.wants_client else None
         tier = self.tiers and capture_writer.tier_of(self.tiers, client, capture_writer.target_of(head))
         part.requests.append((time, duration, tier or 0, head))
@@ -245,4 +257,8 @@ class RequestReader:
             return None
         for remark in remarks:
             part.remarks[remark] += 1
+        if self.duration_name and values.get(self.duration_name) in ABSENT:
+            part.remarks[NO_DURATION % self.form.shown[self.duration_name]] += 1
+        if self.hosts and all(values.get(name) in ABSENT for name in self.hosts):
+            part.remarks[NO_HOST % self.form.shown[self.hosts[0]]] += 1
         return head

@@ -6,7 +6,9 @@ import capture_from_pcap
 import input_files
 import log_formats
 import packet_files
+import request_text
 import tool_run
+from request_text import NO_HTTP, Body, GivenUp, Text, body_of
 from tool_run import Fault
 
 dpkt = packet_files.dpkt
@@ -18,43 +20,27 @@ LINE_ROOM = 65_536  # bytes; a longer line doesn't fit
 SECOND = 1_000_000  # microseconds
 DIGITS = 15  # of a number of bytes
 SEQUENCES = 2**32
-HEAD_LIMIT = 131_072  # bytes of a head, or of a line among chunks, that are waited for
-HEAD_END = re.compile(rb"\r?\n\r?\n")
-LINE_END = re.compile(rb"\n")
-END_BEGUN = 3  # bytes of such an end that may be there without its last one
-LINE_ENDS = re.compile(rb"[\r\n]*")
-EMPTY_LINES = (b"\n", b"\r\n")
-LENGTH = re.compile(rb"^content-length:[ \t]*([0-9]{1,15})[ \t]*\r?$", re.IGNORECASE | re.MULTILINE)
-CHUNKED = re.compile(rb"^transfer-encoding:.*chunked", re.IGNORECASE | re.MULTILINE)
-CHUNK = re.compile(rb"([0-9A-Fa-f]{1,8})[^\n]*\n")
 ANSWER_BEGIN = b"HTTP/1."
 STATUS = re.compile(rb"HTTP/1\.[01] ([0-9]{3})")
 SWITCHED = 101  # the status after which a connection has another protocol (RFC 9110, 15.2.2)
 LOST = "connections from a lost, cut or odd piece on"
-NO_HTTP = "connections that aren't HTTP, or no longer are (TLS, WebSocket)"
 MIDDLE = "connections whose begin isn't there"
 UNANSWERED = "requests without a whole answer"
 UNFIT = "lines of another format"
 
 # When a request's last byte came and its answer's last byte went, in microseconds since 1970; and the answer.
 Measured = collections.namedtuple("Measured", "arrival answer method status size")
+# What was measured in a file, counts of what was left out, whether arrivals are finer than a second, and whether times
+# begin only when a worker takes a request.
+Recorded = collections.namedtuple("Recorded", "measured left_out is_exact is_begun", defaults=(True, False))
 
 
-class GivenUp(Exception):
-    """Why a connection is read no further: LOST or NO_HTTP."""
-
-
-class Side:
-    """What one side of a connection sends, in order.
-
-    Nothing is looked at twice: what is waited for is searched from where the last search ended.
-    """
+class Side(Text):
+    """What one side of a connection sends, in order."""
 
     def __init__(self, sequence):
+        super().__init__()
         self.next = sequence % SEQUENCES
-        self.text = bytearray()
-        self.at = 0  # the place in the text up to which it was read
-        self.searched = 0  # the place in it before which nothing ends that is waited for
 
     def take(self, sequence, data):
         """Takes a segment's bytes; tells whether there is no hole before them."""
@@ -67,88 +53,6 @@ class Side:
         self.text += fresh
         self.next = (self.next + len(fresh)) % SEQUENCES
         return True
-
-    def forget(self):
-        """Drops what was read."""
-        del self.text[:self.at]
-        self.at, self.searched = 0, max(0, self.searched - self.at)
-
-    def comes(self, begin):
-        """Whether what comes next begins so, as far as it is there."""
-        return self.text.startswith(begin[:len(self.text) - self.at], self.at)
-
-    def up_to(self, end):
-        """What comes next, up to an end (a pattern) and with it; None where it isn't whole yet."""
-        found = end.search(self.text, max(self.at, self.searched))
-        if found:
-            begin, self.at = self.at, found.end()
-            return self.text[begin:self.at]
-        if len(self.text) - self.at > HEAD_LIMIT:
-            raise GivenUp(NO_HTTP)
-        self.searched = max(0, len(self.text) - END_BEGUN)
-        return None
-
-    def skip(self, count):
-        """Reads over so many bytes, or all where it is None, as far as they are there; tells how many these are."""
-        there = len(self.text) - self.at
-        skipped = there if count is None else min(count, there)
-        self.at += skipped
-        return skipped
-
-    def skip_line_ends(self):
-        """Reads over the ends of lines that come next."""
-        self.at = LINE_ENDS.match(self.text, self.at).end()
-
-
-class Body:
-    """What is still to come of a body."""
-
-    def __init__(self, length, is_chunked=False):
-        self.left = length  # bytes, of a chunk in a body of chunks; None: up to the connection's end
-        self.is_chunked = is_chunked
-        self.is_trailer = False  # whether the last chunk's line was read
-        self.size = 0  # bytes that came
-
-    def take(self, side):
-        """Reads over what has come; tells whether that was all."""
-        while True:
-            count = side.skip(self.left)
-            self.size += count
-            self.left = None if self.left is None else self.left - count
-            if self.left or self.left is None:
-                return False
-            if not self.is_chunked:
-                return True
-            if not self.next_chunk(side):
-                return False
-
-    def next_chunk(self, side):
-        """Reads the line of the next chunk, and after the last one the trailer; tells whether there is something to go
-        on with."""
-        if not self.is_trailer:
-            side.skip_line_ends()
-            line = side.up_to(LINE_END)
-            if line is None:
-                return False
-            found = CHUNK.match(line)
-            if not found:
-                raise GivenUp(NO_HTTP)
-            self.left = int(found[1], 16)
-            self.is_trailer = self.left == 0
-        while self.is_trailer and self.is_chunked:
-            line = side.up_to(LINE_END)
-            if line is None:
-                return False
-            self.is_chunked = line not in EMPTY_LINES
-        return True
-
-
-def body_of(head, length):
-    """The body that comes after a head, and has this length where the head tells none (RFC 9112, 6.3)."""
-    if CHUNKED.search(head):
-        return Body(0, True)
-    found = LENGTH.search(head)
-    return Body(int(found[1]) if found else length)
 
 
 class Exchange:
@@ -168,7 +72,7 @@ class Exchange:
             self.client.skip_line_ends()
             if self.client.text.startswith(capture_from_pcap.TLS_BEGIN, self.client.at):
                 raise GivenUp(NO_HTTP)
-            head = self.client.up_to(HEAD_END)
+            head = self.client.up_to(request_text.HEAD_END)
             if head is None:
                 return
             self.waiting.append([time, head.split(b" ", 1)[0].decode("latin-1")])
@@ -200,7 +104,7 @@ class Exchange:
         while True:
             if not self.server.comes(ANSWER_BEGIN):
                 raise GivenUp(NO_HTTP)
-            head = self.server.up_to(HEAD_END)
+            head = self.server.up_to(request_text.HEAD_END)
             if head is None:
                 return False
             found = STATUS.match(head)
@@ -308,15 +212,15 @@ def first_of(names, known):
 
 
 def reader_of(log_format, first):
-    """The format of a log that is named or written out; raises Fault where it tells no exact time, duration, status or
-    number of bytes."""
+    """The format of a log that is named or written out; raises Fault where it tells no duration, status or number of
+    bytes, or whole seconds, unless these are when Apache's workers took the requests."""
     if log_format == log_formats.JSON:
         found = log_formats.JsonFormat(first.split(b"\n", 1)[0])
     else:
         found = log_formats.given_format(log_format)
-    exact = [name for name, time in log_formats.TIMES.items() if time.exact]
+    times = [name for name, time in log_formats.TIMES.items() if time.exact or not time.answered]
     missing = [wanted for wanted, known in (
-        ("$msec (Apache: %{end:usec}t)", exact), ("$request_time (Apache: %D)", log_formats.DURATIONS),
+        ("$msec (Apache: %{usec}t)", times), ("$request_time (Apache: %D)", log_formats.DURATIONS),
         *(("$" + name, [name]) for name in NEEDED)) if not first_of(found.names, known)]
     if missing:
         raise Fault("--log-format: needs %s" % ", ".join(missing), 2)
@@ -332,16 +236,21 @@ class LogReader:
         self.time = first_of(names, log_formats.TIMES)
         self.duration = first_of(names, log_formats.DURATIONS)
         self.is_answer = log_formats.TIMES[self.time].answered
+        self.is_exact = log_formats.TIMES[self.time].exact
+        self.is_begun = self.duration in log_formats.APACHE_DURATIONS
 
     def measured(self, line):
-        """What a line tells; None where it doesn't fit."""
+        """What a line tells; else why it tells nothing: it lacks a field, or is of another format."""
         values = self.format.values(line.rstrip(b"\r")) or {}
-        if not all(values.get(name) for name in (self.time, self.duration, "status")):
-            return None
+        name = log_formats.lacking(values, (self.time, self.duration, "status"))
+        if name or not values.get(self.time):
+            return log_formats.WITHOUT % self.format.shown[name] if name else UNFIT
         time = log_formats.TIMES[self.time].read(values[self.time])
         duration = log_formats.DURATIONS[self.duration](values[self.duration])
-        if time is None or duration is None or not re.fullmatch(rb"[0-9]{3}", values["status"]):
-            return None
+        if time is None:
+            return UNFIT
+        if duration is None or not re.fullmatch(rb"[0-9]{3}", values["status"]):
+            return log_formats.WITHOUT % self.format.shown[self.duration if duration is None else "status"]
         arrival = time - duration if self.is_answer else time
         sent = values.get("body_bytes_sent", b"")
         size = int(sent) if sent.isdigit() and len(sent) <= DIGITS else 0
@@ -359,29 +268,31 @@ def nothing_fits(one, form):
 
 
 def of_log(one, log_format):
-    """What was measured in a log, and counts of what was left out."""
+    """What was recorded in a log."""
     reader, measured, left_out = LogReader(log_format, one.first), [], collections.Counter()
     for line in lines_of(one):
         found = reader.measured(line)
-        left_out[UNFIT] += found is None
-        measured += [found] if found else []
+        if isinstance(found, str):
+            left_out[found] += 1
+        else:
+            measured.append(found)
     if not measured:
         raise Fault(nothing_fits(one, reader.format))
     durations = [found.answer - found.arrival for found in measured]
     if all(duration % SECOND == 0 for duration in durations):
         raise Fault("the durations are whole seconds; they have to be milliseconds or better")
-    return measured, left_out
+    return Recorded(measured, left_out, reader.is_exact, reader.is_begun)
 
 
 def of_file(path, ports, log_format):
-    """What was measured in a file, which is told by its first bytes: packets or a log."""
+    """What was recorded in a file, which is told by its first bytes: packets or a log."""
     size = input_files.size_of([path])
     with tool_run.progress(TOOL, size, "B") as bar, input_files.opened([path], bar.update) as (one,):
         try:
             if one.first.startswith(input_files.PACKETS):
                 if not ports:
                     raise Fault("these are packets: --port says which is the server's", 2)
-                return of_packets(one, frozenset(ports))
+                return Recorded(*of_packets(one, frozenset(ports)))
             return of_log(one, log_format)
         except Fault as fault:
             raise Fault("%s: %s" % (path, fault), fault.status) from None

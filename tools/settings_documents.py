@@ -5,6 +5,7 @@ import json
 import re
 import tomllib
 
+from response_delays import segments_of_prefix
 from tool_run import Fault
 
 SIZE_LIMIT = 65_536  # bytes
@@ -13,13 +14,15 @@ RATES = ("rate", "rate_min", "rate_max", "up")  # in thousandths a second
 FIXED_RATE = "fixed_rate"  # this project's tools' own word: rate, rate_min and rate_max alike
 RATES_OF_FIXED = ("rate_min", "rate", "rate_max")
 ROUTE = "route"  # the name of the list of routes
+OF_ROUTE = ("cost", "kib", "delay")  # the keys of a route that are integers
 SERVERS = "costs.servers"  # the key that says how many work side by side
+COSTS = ("file", "kib", "error")  # the keys of the table of costs that are a server's work
 NAME = re.compile(r"[A-Za-z0-9_-]+")
 # The least and the greatest value of the keys for which a tool finds values (docs/FORMATS.md, Settings).
 RANGES = {
     "costs.file": (1, 1_000_000), "costs.kib": (0, 1_000_000), "costs.error": (1, 1_000_000),
     "costs.servers": (1, 1_024), "costs.delay": (0, 1_000_000_000),
-    "route.cost": (1, 1_000_000_000), "route.kib": (0, 1_000_000),
+    "route.cost": (1, 1_000_000_000), "route.kib": (0, 1_000_000), "route.delay": (0, 1_000_000_000),
 }
 
 Policy = collections.namedtuple("Policy", "rate rate_min rate_max depth")
@@ -71,16 +74,52 @@ def value_text(value):
     return json.dumps(value, ensure_ascii=False).replace("\x7f", "\\u007f") if type(value) is str else str(value)
 
 
-def text_of(base, keys=(), values=()):
-    """The settings of a base with values in the place of its own, as TOML: tables and keys by rising names, and then
-    the routes in their order."""
+def route_key(key):
+    """The prefix and the name of a key of a route, as route./api.cost; None of another key."""
+    table, _, rest = key.partition(".")
+    return rest.rpartition(".")[::2] if table == ROUTE else None
+
+
+def routes_of(tables, prefix):
+    """The routes of a document with this prefix, which are one at most unless it has one twice."""
+    return [route for route in tables.get(ROUTE, [])
+            if segments_of_prefix(str(route.get("prefix"))) == segments_of_prefix(prefix)]
+
+
+def with_values(base, keys, values):
+    """The tables of a base with values in the place of its own."""
     tables = collections.defaultdict(dict, {name: dict(table) for name, table in base.items() if name != ROUTE})
+    if ROUTE in base:
+        tables[ROUTE] = [dict(route) for route in base[ROUTE]]
     for key, value in zip(keys, values):
         table, _, name = key.partition(".")
-        names = RATES_OF_FIXED if name == FIXED_RATE else (name,)
-        tables[table].update(dict.fromkeys(names, value))
-    parts = [("[%s]\n" % table, entries) for table, entries in sorted(tables.items())]
-    parts += [("[[%s]]\n" % ROUTE, route) for route in base.get(ROUTE, [])]
+        if table == ROUTE:
+            prefix, name = route_key(key)
+            routes_of(tables, prefix)[0][name] = value
+        else:
+            names = RATES_OF_FIXED if name == FIXED_RATE else (name,)
+            tables[table].update(dict.fromkeys(names, value))
+    return tables
+
+
+def with_costs(tables, defaults, percent):
+    """The tables with all costs, those of routes too, at so many percent of what is in force."""
+    def scaled(key, value):
+        value = max(RANGES[key][0], round(value * percent / 100))
+        refuse_outside(key, value)
+        return value
+
+    costs = {**{key: defaults["costs"][key] for key in COSTS}, **tables.get("costs", {})}
+    costs.update((key, scaled("costs." + key, costs[key])) for key in COSTS)
+    routes = [{**route, **{key: scaled("route." + key, route[key]) for key in OF_ROUTE[:2] if key in route}}
+              for route in tables.get(ROUTE, [])]
+    return {**tables, "costs": costs, **({ROUTE: routes} if routes else {})}
+
+
+def text_of(tables):
+    """The tables of a document as TOML: tables and keys by rising names, and then the routes in their order."""
+    parts = [("[%s]\n" % table, entries) for table, entries in sorted(tables.items()) if table != ROUTE]
+    parts += [("[[%s]]\n" % ROUTE, route) for route in tables.get(ROUTE, [])]
     return "\n".join(heading + "".join("%s = %s\n" % (key, value_text(value)) for key, value in sorted(entries.items()))
                      for heading, entries in parts)
 

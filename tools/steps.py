@@ -18,6 +18,7 @@ WIDTHS = (
 MARKS = (0.001, 0.002, 0.005, 0.01, 0.02, 0.05, 0.1, 0.2, 0.5, 1, 2, 5, 10, 15, 30, 60, 120, 300, 600, 900, 1800, 3600,
          7200, 10_800, 21_600, 43_200, 86_400, 172_800, 604_800, 2_419_200)
 MOST_MARKS = 5
+LONG_LABEL = 9  # characters; of longer labels there are fewer
 NAMED = (("day", DAY), ("hour", HOUR), ("minute", MINUTE), ("second", SECOND), ("millisecond", MILLISECOND))
 UNITS = {"ms": MILLISECOND, "s": SECOND, "": SECOND, "m": MINUTE, "h": HOUR, "d": DAY}
 DURATION = re.compile(r"([0-9]{1,9})(?:[.]([0-9]{1,6}))?(ms|s|m|h|d|)")
@@ -140,18 +141,18 @@ def width_in_words(ticks):
     return "%g seconds" % (ticks / SECOND)
 
 
-def marks_between(first, last):
+def marks_between(first, last, most=MOST_MARKS):
     """Times in seconds for an axis between two: multiples of a distance that people count in, no more than a few."""
-    distance = next((mark for mark in MARKS if (last - first) / mark <= MOST_MARKS), None)
+    distance = next((mark for mark in MARKS if (last - first) / mark <= most), None)
     if distance is None:
-        distance = MARKS[-1] * (1 + (last - first) // (MOST_MARKS * MARKS[-1]))
+        distance = MARKS[-1] * (1 + (last - first) // (most * MARKS[-1]))
     begin = -(-first // distance)
     marks = itertools.takewhile(lambda mark: mark <= last, ((begin + place) * distance for place in itertools.count()))
     return list(marks)
 
 
 def time_in_words(seconds, span, is_of_day):
-    """A time for an axis that spans so many seconds: since 1970, or from a start."""
+    """A time for an axis that spans so many seconds: since 1970, or from a start. A date has a row of its own."""
     whole, ticks = divmod(round(seconds * TICKS_IN_SECOND), TICKS_IN_SECOND)
     fraction = ("%.6f" % (ticks / TICKS_IN_SECOND)).rstrip("0")[1:] if ticks else ""
     hours, rest = divmod(whole % SECONDS_IN_DAY if is_of_day else whole, 3600)
@@ -159,4 +160,15 @@ def time_in_words(seconds, span, is_of_day):
     if not is_of_day or span <= SECONDS_IN_DAY:
         return clock
     date = datetime.datetime.fromtimestamp(min(whole, LAST_SECOND), datetime.timezone.utc)
-    return date.strftime("%b %d ") + clock if span <= 10 * SECONDS_IN_DAY else date.strftime("%Y-%m-%d")
+    return clock + date.strftime("\n%b %d") if span <= 10 * SECONDS_IN_DAY else date.strftime("%b %d\n%Y")
+
+
+def labels_between(begin, first, last, is_of_day):
+    """Times for an axis between two, in seconds from a begin, and what stands at each."""
+    labels = []
+    for most in (MOST_MARKS, MOST_MARKS - 2):
+        marks = marks_between(begin + first, begin + last, most)
+        labels = [time_in_words(mark, last - first, is_of_day) for mark in marks]
+        if max(map(len, "\n".join(labels).split("\n"))) <= LONG_LABEL:
+            break
+    return [mark - begin for mark in marks], labels

@@ -24,7 +24,6 @@ import stat
 import sys
 import textwrap
 import threading
-import tomllib
 
 import command_line
 import decision_tables
@@ -45,10 +44,11 @@ TOOL = "sweep"
 EXPLANATION = """\
 Each combination of the values is a run of `haboob explain` for each capture, with the settings of
 --settings and the values in their place. A key is any one of the settings that is a single integer:
-policy.depth, tier1.rate, costs.kib. Rates are in thousandths a second, or with /s in requests a
-second: policy.rate=1000000 is policy.rate=1000/s. policy.fixed_rate is no key of the program: it sets
-rate, rate_min and rate_max alike, as servers do that have no controller. (The program refuses a rate
-outside rate_min and rate_max.) FOLDER gets
+policy.depth, tier1.rate, costs.kib; of a route of --settings route./api.cost, its kib or delay. Rates
+are in thousandths a second, or with /s in requests a second: policy.rate=1000000 is
+policy.rate=1000/s. policy.fixed_rate is no key of the program: it sets rate, rate_min and rate_max
+alike, as servers do that have no controller. (The program refuses a rate outside rate_min and
+rate_max.) FOLDER gets
 
   sweep.html      the combinations by requests turned away and p99, what each key changes, and the
                   combinations that no other beats
@@ -56,9 +56,11 @@ outside rate_min and rate_max.) FOLDER gets
                   admitted, rejected, rejected_while_idle; p50, p90, p99, greatest (microseconds);
                   busy_share (0 to 1); unbeaten and chosen (1 or 0); turned_away (percent);
                   most_inside; row; capture; the figures of each tier, where there are several;
-                  fault: what the program says where it refuses the settings, and there are no
-                  figures then; the file of the settings
-  settings/       the settings of each combination, to be taken as they are
+                  with --margin those at its ends (lower.p99, upper.p99 ..); fault: what the
+                  program says where it refuses the settings, and there are no figures then; the
+                  file of the settings
+  settings/       the settings of each combination, to be taken as they are, and those at the ends of
+                  a margin
   results/        the figures of each run. After an interruption the same command goes on; and any
                   sweep into this folder takes a result again where snapshot, capture, program and
                   settings are the same.
@@ -72,6 +74,10 @@ several captures the worst figure counts; sweep.csv has a row `worst` and then o
 turns fewest away, and prints its settings and lines for nginx, HAProxy and Envoy on standard output.
 FIGURE is %s;
 tier1.p99 is that of tier 1. N is in microseconds for times, in percent for turned_away.
+
+--margin PERCENT chooses a combination that is within --at-most also where all costs, those of routes
+too, are so many percent lower, and higher: three runs in the place of one. The page shows each figure
+at both ends. Above 90 percent of what the server bears a warning says so.
 
 --search N tries N combinations in the place of all: --set then gives ranges, and an optimiser (SciPy's
 differential evolution) looks for the one to choose.
@@ -97,12 +103,13 @@ examples:
 KIND = "haboob-sweep 3"  # to be raised where the figures of a result get another meaning
 DIGITS = 16  # hexadecimal ones of a file's name
 RESULT_ROOM = 65_536  # bytes that are read of a result; a sound one has some hundreds
-SETTING = re.compile(r"([A-Za-z0-9_-]+[.][A-Za-z0-9_-]+)=(.*)")
+SETTING = re.compile(r"(route[.]/[^=]*[.][a-z]+|[A-Za-z0-9_-]+[.][A-Za-z0-9_-]+)=(.*)")
 RANGE = re.compile(r"([^.,]+)[.][.]([^.,]+)")
 ADDRESS = re.compile(r"(?:(?:tcp|tls)://)?[^/]+:[0-9]+")
 INTEGER = re.compile(r"(-?[0-9]{1,15})(/s)?")
 LIMIT = re.compile(r"(?:(tier[0-3])[.])?([a-z0-9_]+)=([0-9]{1,15}(?:[.][0-9]{1,6})?)")
 LEAST_SEARCH, MOST_COMBINATIONS = 10, 100_000  # runs
+GREATEST_MARGIN = 90  # percent
 NO_CAPTURE = "haboob: capture: record 0: Header"  # what the program says of a file that is no capture
 
 # A key of --set, its values in their order, and whether they are the ends of a range.
@@ -151,6 +158,13 @@ def address(text):
     return text
 
 
+def margin(text):
+    """So many percent of the command line."""
+    if not re.fullmatch(r"[1-9][0-9]?", text) or int(text) > GREATEST_MARGIN:
+        raise argparse.ArgumentTypeError("%r is no whole number of percent from 1 to %d" % (text, GREATEST_MARGIN))
+    return int(text)
+
+
 def count(text):
     """A whole number from 1 of the command line."""
     if not re.fullmatch(r"[1-9][0-9]{0,8}", text):
@@ -169,6 +183,8 @@ def arguments(words):
                         metavar="TABLE.KEY=VALUE,VALUE..", help="a key and its values; may be given several times")
     parser.add_argument("--at-most", type=limit, action="append", default=[], dest="limits", metavar="FIGURE=N",
                         help="choose the combination that turns fewest away within it; may be given several times")
+    parser.add_argument("--margin", type=margin, metavar="PERCENT", help="choose what is within --at-most also where "
+                        "all costs are so many percent lower, and higher")
     parser.add_argument("--search", type=count, metavar="N", help="try N combinations, chosen by an optimiser, of "
                         "the ranges that --set gives as TABLE.KEY=LEAST..GREATEST")
     parser.add_argument("--output", required=True, metavar="FOLDER", help="where the results go; is made if need be")
@@ -193,6 +209,8 @@ def check_together(parser, options):
             other, "--search needs a range, LEAST..GREATEST" if options.search else "a range needs --search"))
     if math.prod(len(one.values) for one in options.grid) > MOST_COMBINATIONS:
         parser.error("argument --set: more than %d combinations" % MOST_COMBINATIONS)
+    if options.margin and not options.limits:
+        parser.error("argument --margin: needs --at-most, which is to hold all over it")
     if options.search and not options.limits:
         parser.error("argument --search: needs --at-most, which says what is looked for")
     if options.search and not LEAST_SEARCH <= options.search <= MOST_COMBINATIONS:
@@ -392,34 +410,51 @@ def as_they_end(futures, bar):
 class Sweep:
     """Runs combinations, and keeps their results in a folder."""
 
-    def __init__(self, options, runner, base, servers):
+    def __init__(self, options, runner, base, defaults):
         self.options = options
         self.runner = runner
-        self.base = base
+        self.base, self.defaults = base, defaults  # tables
         self.keys = [one.key for one in options.grid]
-        self.servers = servers  # those of all combinations, where no key says how many
         self.folder = pathlib.Path(options.output)
         self.results = Results(self.folder / "results", runner)
         self.begin = None  # the function that begins a run; None before the first
         self.taken = 0  # combinations whose results were all there before
 
+    def documents(self, point):
+        """The texts of the settings for values: as they are, and with costs at both ends of a margin."""
+        tables = settings_documents.with_values(self.base, self.keys, point)
+        margin = self.options.margin
+        ends = [settings_documents.with_costs(tables, self.defaults, percent)
+                for percent in ((100 - margin, 100 + margin) if margin else ())]
+        return [settings_documents.text_of(one) for one in (tables, *ends)]
+
+    def path(self, text):
+        """The file of the text of settings."""
+        return self.folder / "settings" / (name_of(text)[:DIGITS] + ".toml")
+
     def combinations(self, points, resources):
         """The combinations of these values, each once it was run for each capture."""
-        texts = [settings_documents.text_of(self.base, self.keys, point) for point in points]
-        paths = [self.folder / "settings" / (name_of(text)[:DIGITS] + ".toml") for text in texts]
-        for path, text in zip(paths, texts):
-            write_whole(path, text, inputs_of(self.options))
+        documents = [self.documents(point) for point in points]
+        texts = list(dict.fromkeys(itertools.chain.from_iterable(documents)))
+        for text in texts:
+            write_whole(self.path(text), text, inputs_of(self.options))
         places = range(len(self.options.captures))
-        runs = [(path, text, place) for path, text in zip(paths, texts) for place in places]
+        runs = [(self.path(text), text, place) for text in texts for place in places]
         missing = [run for run in runs if self.results.read(*run[1:]) is None]
-        self.taken += len(texts) - len({text for _, text, _ in missing})
+        lacking = {text for _, text, _ in missing}
+        self.taken += sum(lacking.isdisjoint(of) for of in documents)
         if missing:
             self.begin = self.begin or resources.enter_context(self.runner.beginner())
             self.run(missing)
-        servers = [dict(zip(self.keys, point)).get(settings_documents.SERVERS, self.servers) for point in points]
-        return [Combination(0, tuple(point), str(path.relative_to(self.folder)),
-                            [sweep_figures.of_servers(self.results.read(text, place), count) for place in places])
-                for point, path, text, count in zip(points, paths, texts, servers)]
+        return [self.combination(point, of) for point, of in zip(points, documents)]
+
+    def combination(self, point, documents):
+        """The combination of values whose documents were run."""
+        servers = settings_documents.servers_of(settings_documents.with_values(self.base, self.keys, point))
+        results, *ends = [[sweep_figures.of_servers(self.results.read(text, place), servers)
+                           for place in range(len(self.options.captures))] for text in documents]
+        path = self.path(documents[0]).relative_to(self.folder)
+        return Combination(0, tuple(point), str(path), results, ends)
 
     def run(self, runs):
         """Runs settings, each given by file, text and capture, and keeps each result once it is there."""
@@ -443,8 +478,19 @@ def tried(options, sweep, resources):
         import sweep_search
         return sweep_search.search([one.values for one in options.grid], options.search,
                                    lambda points: sweep.combinations(points, resources),
-                                   lambda combination: sweep_figures.cost(combination.figures, options.limits))
+                                   lambda combination: sweep_figures.cost_of(combination, options.limits))
     return sweep.combinations(list(itertools.product(*(one.values for one in options.grid))), resources)
+
+
+def check_route(key, base):
+    """Refuses a key of a route that the settings don't have."""
+    prefix, name = settings_documents.route_key(key)
+    if name not in settings_documents.OF_ROUTE:
+        raise Fault("--set: %s: a route has %s" % (key, ", ".join(settings_documents.OF_ROUTE)))
+    if not settings_documents.routes_of(base, prefix):
+        known = [str(route.get("prefix")) for route in base.get(settings_documents.ROUTE, [])]
+        raise Fault("--set: %s: --settings has no route with the prefix %s%s" % (
+            key, prefix, "; it has %s" % ", ".join(known) if known else ""))
 
 
 def checked_base(options, runner):
@@ -453,23 +499,44 @@ def checked_base(options, runner):
     known = settings_documents.keys_of(defaults)
     base = settings_documents.read(options.settings)
     for key in (one.key for one in options.grid):
-        settings_documents.refuse_unknown(key, known, "--set: ")
+        if settings_documents.route_key(key):
+            check_route(key, base)
+        else:
+            settings_documents.refuse_unknown(key, known, "--set: ")
     tables = {table: entries for table, entries in base.items() if table != settings_documents.ROUTE}
     for key in ("%s.%s" % (table, name) for table, entries in tables.items() for name in entries):
         settings_documents.refuse_unknown(key, known[:-len(settings_documents.TIERS)], "%s: " % options.settings)
     return base, defaults
 
 
-def write_outputs(options, combinations):
-    """Writes table and page of all combinations; returns the rows, those that no other beats, and the chosen one (None
-    where there is none)."""
+def policies_of(options, chosen, defaults):
+    """The policies in force of the chosen combination, by their tiers."""
+    tables = settings_documents.read(pathlib.Path(options.output, chosen.settings))
+    tiers = [int(tier) for tier in chosen.figures["tiers"]] or [0]
+    return {tier: settings_documents.policy_of(tier, tables, defaults) for tier in tiers}
+
+
+def rate_of(policies):
+    """How many requests a second policies let in as long as the load lasts; None where a controller moves that."""
+    if not all(policy.rate_min == policy.rate_max for policy in policies.values()):
+        return None
+    return sum(policy.rate for policy in policies.values()) / 1000
+
+
+def write_outputs(options, combinations, defaults):
+    """Writes table and page of all combinations, and says the warnings; returns the rows, those that no other beats,
+    and the chosen one (None where there is none)."""
     rows = sweep_figures.rows_of(combinations, [one.values for one in options.grid], not options.search)
     unbeaten = sweep_figures.unbeaten_of(rows)
     chosen = sweep_figures.chosen_of(rows, options.limits)
     folder = pathlib.Path(options.output)
     keys = [one.key for one in options.grid]
     table = sweep_figures.table_of(keys, options.captures, rows, unbeaten, chosen)
-    page = sweep_page.page_of(options, combinations, rows, unbeaten, chosen)
+    rate = rate_of(policies_of(options, chosen, defaults)) if chosen else None
+    warnings = [*warnings_of(options, combinations), *sweep_figures.warnings_of(chosen, rate, options.margin)]
+    for line in warnings:
+        tool_run.say("%s: %s" % (TOOL, line))
+    page = sweep_page.page_of(options, combinations, rows, unbeaten, chosen, warnings)
     output_file.replace_all([(folder / "sweep.csv", lambda file: spreadsheets.write(file, *table)),
                              (folder / "sweep.html", lambda file: file.write(page))])
     return rows, unbeaten, chosen
@@ -478,16 +545,21 @@ def write_outputs(options, combinations):
 def print_chosen(options, chosen, defaults):
     """Prints the chosen settings, and lines for servers."""
     path = pathlib.Path(options.output, chosen.settings)
-    text = path.read_text(encoding="utf-8")
-    tables = tomllib.loads(text)
-    tiers = [int(tier) for tier in chosen.figures["tiers"]] or [0]
-    policies = {tier: settings_documents.policy_of(tier, tables, defaults) for tier in tiers}
     values = ", ".join("%s %s" % (settings_documents.titled(one.key), settings_documents.shown(one.key, value))
                        for one, value in zip(options.grid, chosen.values))
     lines = [
-        "# row %d: %s: %s" % (chosen.row, values, sweep_figures.choice_in_words(chosen.figures, options.limits)),
-        "# the settings, which stand in %s:" % path, text, *server_lines.lines_of(policies)]
+        "# row %d: %s: %s" % (chosen.row, values, sweep_figures.choice_in_words(chosen, options.limits)),
+        "# the settings, which stand in %s:" % path, path.read_text(encoding="utf-8"),
+        *server_lines.lines_of(policies_of(options, chosen, defaults))]
     standard_output.write("\n".join(lines) + "\n")
+
+
+def warnings_of(options, combinations):
+    """What is strange about the snapshot for each capture, a line each."""
+    results = next(one.results for one in combinations if "fault" not in one.figures)
+    told = [(capture, decision_tables.strange_snapshot(result["asked"], result["missing"]))
+            for capture, result in zip(options.captures, results)]
+    return ["%s: %s" % one for one in told if one[1]]
 
 
 def sweep(options):
@@ -500,20 +572,21 @@ def sweep(options):
         for name in ("settings", "results"):
             (folder / name).mkdir(parents=True, exist_ok=True)
         output_file.refuse_same([folder / "sweep.csv", folder / "sweep.html"], inputs_of(options))
-        sweep_of = Sweep(options, runner, base, settings_documents.servers_of(base))
+        sweep_of = Sweep(options, runner, base, defaults)
         combinations = tried(options, sweep_of, resources)
     tool_run.say("%s: %d combinations, %d of them taken from before" % (TOOL, len(combinations), sweep_of.taken))
     if all("fault" in one.figures for one in combinations):
         raise Fault("every combination is refused (the first: %s)" % combinations[0].figures["fault"])
-    rows, unbeaten, chosen = write_outputs(options, combinations)
+    rows, unbeaten, chosen = write_outputs(options, combinations, defaults)
     faults = [row.figures["fault"] for row in rows if "fault" in row.figures]
     refused = ", %d refused (the first: %s)" % (len(faults), faults[0]) if faults else ""
     tool_run.say("%s: %d unbeaten%s; see %s" % (TOOL, len(unbeaten), refused, folder / "sweep.html"))
     if chosen:
         print_chosen(options, chosen, defaults)
     elif options.limits:
-        raise Fault("no combination is within %s%s" % (
+        raise Fault("no combination is within %s%s%s" % (
             " and ".join("%s=%g" % (one.name, one.most) for one in options.limits),
+            " at costs %d%% lower and higher" % options.margin if options.margin else "",
             sweep_figures.nearest_in_words(rows, options.limits)))
 
 

@@ -8,9 +8,13 @@ COUNTED = ("admitted", "rejected", "rejected_while_idle", "p50", "p90", "p99", "
 OF_TIER = ("turned_away", "rejected", "rejected_while_idle", "p50", "p90", "p99", "greatest")
 LIMITED = (*OF_TIER, "most_inside", "busy_share")
 COLUMNS_OF_TIER = ("admitted", *OF_TIER)
-IN_RESULT = (*COUNTED, "most_inside", "busy", "span")
+IN_RESULT = (*COUNTED, "most_inside", "busy", "span", "asked", "missing")
 TIMES = ("p50", "p90", "p99", "greatest")
-TICKS_IN_MILLISECOND = 1000
+TICKS_IN_MILLISECOND, TICKS_IN_SECOND = 1000, 1_000_000
+DIGITS = {"turned_away": "%.4f", "busy_share": "%.6f"}  # of shares in the table
+ENDS = ("lower", "upper")  # of a margin
+AT_ENDS = ("turned_away", *TIMES, "busy_share")  # the figures that are told there
+BUSY = 0.9  # of the time: a server that is busier has no room
 FAR = 1_000_000.0  # the cost of what the program refuses
 MOST_COUNTED = 10**18  # beyond what a table of decisions can tell
 
@@ -26,14 +30,23 @@ DEFINITIONS = (
 )
 
 
-class Combination(collections.namedtuple("Combination", "row values settings results")):
+class Combination(collections.namedtuple("Combination", "row values settings results ends", defaults=((),))):
     """A combination that was run: its row in the table from 1, its values, the file of its settings, and what came of
-    it for each capture."""
+    it for each capture; the same with costs at both ends of a margin, if there is one."""
 
     @functools.cached_property
     def figures(self):
         """The worst figures over all captures: of these alone its place among others is decided."""
         return worst(self.results)
+
+    @functools.cached_property
+    def at_ends(self):
+        """The same at both ends of the margin."""
+        return [worst(results) for results in self.ends]
+
+    def all_figures(self):
+        """All three, or without a margin the first alone."""
+        return [self.figures, *self.at_ends]
 
 
 def is_count(value):
@@ -50,7 +63,7 @@ def is_result(value):
         return isinstance(value, dict)
     tiers = value.get("tiers")
     return (are_counts(value, IN_RESULT) and all(name in value for name in IN_RESULT) and isinstance(tiers, dict)
-            and all(is_count(value[name]) for name in (*COUNTED[:3], "busy", "span"))
+            and all(is_count(value[name]) for name in (*COUNTED[:3], "busy", "span", "asked", "missing"))
             and all(number in ("0", "1", "2", "3") and are_counts(tier, COUNTED)
                     and all(is_count(tier.get(name)) for name in ("admitted", "rejected"))
                     for number, tier in tiers.items()))
@@ -99,7 +112,7 @@ def joined(combinations, place, count):
         groups[combination.values[:place], combination.values[place + 1:]].append(combination)
     rows = []
     for (before, after), group in groups.items():
-        is_equal = all(one.results == group[0].results for one in group)
+        is_equal = all((one.results, one.ends) == (group[0].results, group[0].ends) for one in group)
         if 1 < count == len(group) and is_equal:
             group = [group[0]._replace(values=(*before, ANY, *after))]
         rows += group
@@ -147,17 +160,20 @@ def is_within(figures, limits):
 
 
 def chosen_of(combinations, limits):
-    """The combination that turns fewest away within the limits, of equals that with the least p99; None of none."""
-    fit = [one for one in comparable(combinations) if is_within(one.figures, limits)] if limits else []
+    """The combination that turns fewest away within the limits, all over the margin; of equals that with the least p99;
+    None of none."""
+    fit = [one for one in comparable(combinations)
+           if limits and all(is_within(figures, limits) for figures in one.all_figures())]
     return min(fit, key=lambda one: (one.figures["turned_away"], one.figures["p99"], one.row), default=None)
 
 
 def nearest_in_words(combinations, limits):
-    """The least of each figure that has a limit, to be told where no combination is within all."""
+    """The least of each figure that has a limit (of those over the margin the greatest), to be told where no
+    combination is within all."""
     words = []
     for one in limits:
-        values = [limited(row.figures, one) for row in comparable(combinations)]
-        least = min((value for value in values if value is not None), default=None)
+        values = [[limited(figures, one) for figures in row.all_figures()] for row in comparable(combinations)]
+        least = min((max(of) for of in values if None not in of), default=None)
         words.append("nothing was answered" if least is None else "the least %s is %g" % (one.name, least))
     return ": " + ", ".join(words)
 
@@ -173,13 +189,40 @@ def cost(figures, limits):
     return 100 + passed if passed else figures["turned_away"]
 
 
+def cost_of(combination, limits):
+    """The same of a combination, at the dearest over its margin."""
+    return max(cost(figures, limits) for figures in combination.all_figures())
+
+
+def warnings_of(chosen, rate, margin):
+    """What is to be known about the chosen combination, at the upper end of a margin in percent if there is one, a line
+    each; `rate` is how many requests a second its policies let in as long as the load lasts, None where a controller
+    moves that."""
+    if chosen is None:
+        return []
+    at = " at costs %d%% higher" % margin if margin else ""
+    busy = chosen.all_figures()[-1]["busy_share"] or 0
+    works = [result["busy"] / (result["admitted"] * result["servers"] * TICKS_IN_SECOND)
+             for result in [chosen.results, *chosen.ends][-1] if result["admitted"]]
+    borne = max(works) * (rate or 0)
+    lines = ["WARNING: row %d keeps the server busy for %.0f%% of its time%s: above %.0f%% a little more traffic waits "
+             "ever longer" % (chosen.row, 100 * busy, at, 100 * BUSY)] * (busy > BUSY)
+    return lines + ["WARNING: row %d lets in %g requests a second, %.0f%% of what the server bears%s: above %.0f%% a "
+                    "load that lasts waits ever longer" % (
+                        chosen.row, rate or 0, 100 * borne, at, 100 * BUSY)] * (borne > BUSY)
+
+
 def cells_of(figures, tiers):
     """The cells of a row for figures: those of all, and those of each of several tiers."""
-    share, busy = (figures.get(name) for name in ("turned_away", "busy_share"))
     of_all = [figures.get(name) for name in COUNTED]
     of_tiers = [figures.get("tiers", {}).get(tier, {}).get(name) for tier in tiers for name in COLUMNS_OF_TIER]
-    return [*of_all, None if busy is None else "%.6f" % busy], [None if share is None else "%.4f" % share,
-                                                               figures.get("most_inside")], of_tiers
+    share, busy = (rounded(name, figures.get(name)) for name in ("turned_away", "busy_share"))
+    return [*of_all, busy], [share, figures.get("most_inside")], of_tiers
+
+
+def rounded(name, value):
+    """A figure as the table has it; None where there is none."""
+    return DIGITS[name] % value if name in DIGITS and value is not None else value
 
 
 def several_tiers(combinations):
@@ -191,18 +234,28 @@ def several_tiers(combinations):
 def table_of(keys, captures, combinations, unbeaten, chosen):
     """The heading and the rows of the table. Of several captures the worst figures come first, then those of each."""
     tiers = several_tiers(combinations)
+    ends = ENDS if any(one.ends for one in combinations) else ()
     heading = [*keys, *COUNTED, "busy_share", "unbeaten", "chosen", "turned_away", "most_inside", "row", "capture",
-               *("tier%s.%s" % (tier, name) for tier in tiers for name in COLUMNS_OF_TIER), "fault", "settings"]
+               *("tier%s.%s" % (tier, name) for tier in tiers for name in COLUMNS_OF_TIER),
+               *("%s.%s" % (end, name) for end in ends for name in AT_ENDS), "fault", "settings"]
     rows = []
     for one in combinations:
-        each = [worst([result]) for result in one.results]
-        parts = [("worst", one.figures), *zip(captures, each)] if len(captures) > 1 else [(captures[0], one.figures)]
-        for capture, figures in parts:
+        for capture, (figures, *at_ends) in parts_of(one, captures):
             first, second, of_tiers = cells_of(figures, tiers)
             marks = [int(one in unbeaten), int(chosen is not None and one.row == chosen.row)]
-            rows.append([*one.values, *first, *marks, *second, one.row, capture, *of_tiers, figures.get("fault"),
-                         one.settings])
+            of_ends = [rounded(name, of.get(name)) for of in at_ends for name in AT_ENDS]
+            rows.append([*one.values, *first, *marks, *second, one.row, capture, *of_tiers, *of_ends,
+                         figures.get("fault"), one.settings])
     return heading, rows
+
+
+def parts_of(combination, captures):
+    """The figures of a combination, also at the ends of its margin, by what they are of: the capture; of several first
+    the worst, and then those of each."""
+    if len(captures) == 1:
+        return [(captures[0], combination.all_figures())]
+    each = zip(*([worst([result]) for result in results] for results in (combination.results, *combination.ends)))
+    return [("worst", combination.all_figures()), *zip(captures, each)]
 
 
 def milliseconds(ticks):
@@ -217,10 +270,16 @@ def in_words(name, value):
     return ("%.2f%%" if name == "turned_away" else "%.3f" if name == "busy_share" else "%d") % value
 
 
-def choice_in_words(figures, limits):
+def choice_in_words(combination, limits):
     """What a combination was chosen by: requests turned away, each figure that has a limit, and p99 where none of these
-    is a time."""
-    told = {one.name: in_words(one.figure, limited(figures, one)) for one in limits if one.name != "turned_away"}
+    is a time; with what these are at the ends of its margin, where that differs."""
+    def told_of(figure, limit=None):
+        value, *at_ends = [in_words(figure, limited(figures, limit) if limit else figures[figure])
+                           for figures in combination.all_figures()]
+        return value + (" (%s to %s)" % tuple(at_ends) if set(at_ends) - {value} else "")
+
+    told = {one.name: told_of(one.figure, one) for one in limits if one.name != "turned_away"}
     if not any(one.figure in TIMES for one in limits):
-        told["p99"] = milliseconds(figures["p99"])
-    return ", ".join(["%.2f%% turned away" % figures["turned_away"], *("%s %s" % pair for pair in told.items())])
+        told["p99"] = told_of("p99")
+    away = told_of("turned_away").replace("%", "% turned away", 1)
+    return ", ".join([away, *("%s %s" % pair for pair in told.items())])

@@ -7,6 +7,7 @@ MUTATIONS=N in the environment tries N damaged inputs.
 """
 import collections
 import contextlib
+import datetime
 import gzip
 import heapq
 import io
@@ -30,6 +31,7 @@ import cost_fit
 import dpkt
 import measured_times
 import numpy
+import request_text
 import settings_documents
 import tool_run
 
@@ -270,6 +272,49 @@ class Fits(Base):
                              (gzip.compress(log_of(answers)),), (lines, "--log-format", "json")):
             self.check_near(self.calibrated(data, *words)[1].values(), (3000, 40, 800), 3)
 
+    def test_haproxy(self):
+        """Milliseconds, in which the whole request came 7 after its first byte; what never reached the server."""
+        answers = simulated(1, 2, (30_000, 400, 8_000), 0, 40_000)
+        lines = []
+        for place, one in enumerate(answers):
+            began = datetime.datetime.fromtimestamp(START + one.arrival / SECOND - 0.007, datetime.timezone.utc)
+            took = round((one.end - one.arrival) / 1000)
+            line = '127.0.0.1:9 [%s] in out/s 7/%d/%d/%d/%d %d %d - - ---- 1/1/1/1/0 0/0 "%s / HTTP/1.1"\n' % (
+                began.strftime("%d/%b/%Y:%H:%M:%S.%f")[:-3], took // 3, took // 3, took - 2 * (took // 3), took + 907,
+                one.status, one.size, one.method)
+            lines += [line] + [re.sub(" 7/[^ ]* ", " 7/-1/-1/-1/7 ", line)] * (place % 50 == 0)
+        output, costs = self.calibrated("".join(lines).encode(), "--log-format", "haproxy")
+        self.check_near([costs[key] for key in ("file", "kib", "servers")], (30_000, 400, 2), 5)
+        self.assertIn("left out: %d lines without %%Tw/%%Tc/%%Tr" % len(answers[::50]), output)
+
+    def test_caddy(self):
+        lines = [json.dumps({"ts": float(seconds(START * SECOND + round(one.end))), "logger": "http.log.access",
+                             "request": {"method": one.method, "uri": "/", "headers": {}}, "size": one.size,
+                             "duration": float(seconds(one.end - one.arrival)), "status": one.status}) + "\n"
+                 for one in simulated(1, 1, (3000, 40, 800), 0, 8_000, 400)]
+        lines[-1] = lines[-1].replace('"duration"', '"took"')
+        output, costs = self.calibrated("".join(lines).encode(), "--log-format", "caddy")
+        self.check_near(costs.values(), (3000, 40, 800), 3)
+        self.assertIn("399 requests in", output)
+        self.assertIn("left out: 1 lines without duration", output)
+
+    def test_apache_in_whole_seconds(self):
+        """Combined with %D: what a worker took for a request, which holds no wait for the worker; so of a server that
+        is busy all along the costs are found, and not how many there are."""
+        costs, lines = (3000, 40, 800), []
+        for one in simulated(1, 4, costs, 0, 1_000):
+            service = costs[2] if one.status == 404 else costs[0] + costs[1] * one.size / 1024
+            begun = datetime.datetime.fromtimestamp(START + (one.end - service) / SECOND, datetime.timezone.utc)
+            lines.append('127.0.0.1 - - [%s +0000] "%s / HTTP/1.1" %d %d "-" "-" %d\n' % (
+                begun.strftime("%d/%b/%Y:%H:%M:%S"), one.method, one.status, one.size, service))
+        output, found = self.calibrated(
+            "".join(lines).encode(), "--log-format", "combined_us", "--page", str(self.page))
+        self.assertEqual(found, {"file": 3000, "kib": 40, "error": 800})
+        self.assertIn("best: nobody waits, no delay: file 3000, kib 40, error 800 microseconds", output)
+        self.assertIn("NOTE: Apache's times begin when a worker takes a request", output)
+        self.assertIn("WARNING: the log has whole seconds", output)
+        self.assertIn("best fit", self.page.read_text())
+
     def test_turned_away(self):
         """Answers 503 and 499, which cost the server next to nothing, don't count."""
         answers = simulated(5, 1, (3000, 40, 800), 0, 8_000)
@@ -383,7 +428,7 @@ class Readers(unittest.TestCase):
         with tempfile.TemporaryDirectory() as folder:
             path = os.path.join(folder, "packets")
             pathlib.Path(path).write_bytes(pcap_of(packets))
-            return measured_times.of_file(path, {80}, "timed")
+            return measured_times.of_file(path, {80}, "timed")[:2]
 
     def opened(self):
         return (packet(0, True, 9, 0, dpkt.tcp.TH_SYN), packet(1, False, 9, 0, dpkt.tcp.TH_SYN | dpkt.tcp.TH_ACK))
@@ -451,8 +496,8 @@ class Readers(unittest.TestCase):
                    for from_client, data in ((True, client), (False, server)) for place in range(0, len(data), size)]
         with contextlib.ExitStack() as patches:
             for name in ("HEAD_END", "CHUNK"):
-                counted = Counted(getattr(measured_times, name), 5 * (len(client) + len(server)))
-                patches.enter_context(unittest.mock.patch.object(measured_times, name, counted))
+                counted = Counted(getattr(request_text, name), 5 * (len(client) + len(server)))
+                patches.enter_context(unittest.mock.patch.object(request_text, name, counted))
             measured, left_out = self.measured(*self.opened(), *packets)
         return self.times(measured), +left_out
 
@@ -516,7 +561,7 @@ class Readers(unittest.TestCase):
     def test_recorded(self):
         """Packets of both directions that tcpdump recorded: 72 requests on twelve connections, a body of several
         packets, a request letter by letter, and three at once; the first times as tcpdump prints them."""
-        measured, left_out = measured_times.of_file(str(DATA / "loopback.pcap"), {18098}, "timed")
+        measured, left_out = measured_times.of_file(str(DATA / "loopback.pcap"), {18098}, "timed")[:2]
         self.assertEqual((len(measured), +left_out), (72 + 1 + 1 + 3, {}))
         self.assertEqual([(one.arrival, one.answer) for one in measured[:3]], [
             (1795413683734921, 1795413683735012), (1795413683740184, 1795413683740284),
@@ -557,7 +602,7 @@ class Faults(Base):
                    % few, "--port", "80")
         self.check(log, 2, "input: --log-format: needs $request_time (Apache: %D)", "--log-format",
                    '"$request" $status $body_bytes_sent $msec')
-        self.check(log, 2, "input: --log-format: needs $msec (Apache: %{end:usec}t), $body_bytes_sent",
+        self.check(log, 2, "input: --log-format: needs $msec (Apache: %{usec}t), $body_bytes_sent",
                    "--log-format", "$time_local|$request|$status|$request_time")
         self.check(
             log, 2,

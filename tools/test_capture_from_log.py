@@ -81,7 +81,8 @@ class Logs(test_support.ToolTest):
         text, said = self.convert(lines, "--host", "a", "--lenient")
         post = GET.replace(b"GET", b"POST")
         self.assertEqual(text, capture((0, 0, GET), (333333, 1, GET), (666666, 2, post)))
-        self.assertIn("6 lines whose request isn't sound (the first is line 2 of %s)" % self.input, said)
+        self.assertIn("1 lines without $request (the first is line 2 of %s)" % self.input, said)
+        self.assertIn("5 lines whose request isn't sound (the first is line 3 of %s)" % self.input, said)
         self.assertIn("1 requests with a method that has bodies", said)
         self.assertIn("1 requests of later versions", said)
 
@@ -395,6 +396,83 @@ class Logs(test_support.ToolTest):
         self.assertIn("left out: %d lines whose request isn't sound" % (100 - len(sound)), said)
 
 
+class OtherServers(test_support.ToolTest):
+    """capture_from_log.py on lines of HAProxy's manual (8.2.3 and 8.2.4, version 2.6), of Caddy's (log directive), and
+    with fields that are lacking"""
+
+    HAPROXY = (b'Feb  6 12:14:14 localhost haproxy[14389]: 10.0.1.2:33317 [06/Feb/2009:12:14:14.655] http-in '
+               b'static/srv1 10/0/30/69/109 200 2750 - - ---- 1/1/1/1/0 0/0 {1wt.eu} {} "GET /index.html HTTP/1.1"')
+    HTTPS = HAPROXY + b" 0/0/0/0/0 1wt.eu/TLSv1.3/TLS_AES_256_GCM_SHA384"
+    BEGIN = 1233922454  # of the 6th of February 2009, 12:14:14
+    CADDY = (b'{"level":"info","ts":1646861401.5241024,"logger":"http.log.access","msg":"handled request","request":'
+             b'{"remote_ip":"127.0.0.1","remote_port":"41342","client_ip":"127.0.0.1","proto":"HTTP/2.0",'
+             b'"method":"GET","host":"localhost","uri":"/","headers":{"User-Agent":["curl/7.82.0"],"Accept":["*/*"]}},'
+             b'"bytes_read":0,"user_id":"","duration":0.000929675,"size":10900,"status":200,'
+             b'"resp_headers":{"Server":["Caddy"]}}')
+
+    def convert(self, lines, *words, status=0):
+        return self.run_tool(capture_from_log, words, b"".join(line + b"\n" for line in lines), status)
+
+    def test_haproxy(self):
+        plain = self.HAPROXY.partition(b": ")[2].replace(b"{1wt.eu} {} ", b"").replace(b"10/0/30/69/", b"10/-1/-1/-1/")
+        six = plain.replace(b"10.0.1.2", b"fd00::9").replace(b" 200 ", b" -1 ").replace(b":14.655", b":15.000")
+        later = self.HTTPS.replace(b"12:14:14.655", b"12:14:14.700").replace(
+            b"GET /index.html HTTP/1.1", b"GET https://1wt.eu:8443/a#22b?c HTTP/2.0")
+        head = b"GET %b HTTP/1.1\r\nHost: %b\r\n\r\n"
+        text, said = self.convert([self.HAPROXY, self.HTTPS, plain, six, later], "--host", "a", "--tier", "fd00::/8=1")
+        self.assertEqual(text, capture(  # the first byte came at .655, the whole request 10 milliseconds later
+            (0, 0, head % (b"/index.html", b"a")), (0, 1, head % (b"/index.html", b"a")),
+            (0, 2, head % (b"/index.html", b"a")), (45_000, 3, head % (b'/a"b?c', b"1wt.eu:8443")),
+            ("tier", 4, 1), (345_000, 4, head % (b"/index.html", b"a")), start=self.BEGIN))
+        self.assertRegex(said, "^capture_from_log: format haproxy: 6 records, 5 connections, [0-9]+ bytes; note: "
+                         "1 requests of later versions, written as HTTP/1.1\n$")
+
+    def test_caddy(self):
+        conditional = self.CADDY.replace(b'"Accept":["*/*"]', b'"If-None-Match":["\\"x\\""],"Referer":["http://b/"]')
+        conditional = conditional.replace(b"1646861401.5241024", b"1646861402").replace(
+            b"0.000929675", b"1.0000000299999998")
+        error = self.CADDY.replace(b"http.log.access", b"http.log.error")
+        text, said = self.convert([conditional, self.CADDY, error], "--lenient")
+        # 1646861402 - 1.0000000299999998 and 1646861401.5241024 - 0.000929675, in whole microseconds of each time
+        self.assertEqual(text, capture(
+            (0, 0, b'GET / HTTP/1.1\r\nHost: localhost\r\nReferer: http://b/\r\nUser-Agent: curl/7.82.0\r\n'
+             b'If-None-Match: "x"\r\n\r\n'),
+            (523_173, 1, b"GET / HTTP/1.1\r\nHost: localhost\r\nUser-Agent: curl/7.82.0\r\n\r\n"),
+            start=1646861401))
+        self.assertIn("format caddy: 2 records", said)
+        self.assertIn("1 lines of another format (the first is line 3 of", said)
+
+    def test_fields_that_are_lacking(self):
+        fields = (b'"ts":1646861401.5241024,', b'"uri":"/",', b'"method":"GET",', b'"host":"localhost",',
+                  b'"duration":0.000929675,')
+        lines = [self.CADDY.replace(field, b"") for field in fields] + [self.CADDY] * 35
+        text, said = self.convert(lines)
+        self.assertEqual(len(requests_in(text)), 37)
+        for words in ("1 lines without ts (the first is line 1 of",
+                      "1 lines without request.uri (the first is line 2 of",
+                      "1 lines without request.method (the first is line 3 of",
+                      "1 requests without request.host, written with that of --host",
+                      "1 requests without duration, taken as if they took no time"):
+            self.assertIn(words, said)
+        _, said = self.convert(lines[:5] * 2, status=1)
+        self.assertIn("of 10 lines 6 are left out: 2 lines without ts (the first is line 1 of", said)
+        for form, name in (('$msec $request_time "$request"', "$request_time"), ('%{end:sec}t %{ms}T "%r"', "%{ms}T")):
+            _, said = self.convert([b'784111777 %b "GET / HTTP/1.1"' % took for took in (b"-", b"1")],
+                                   "--log-format", form)
+            self.assertIn("note: 1 requests without %s, taken as if they took no time" % name, said)
+
+    def test_combined_with_microseconds(self):
+        """The microseconds of %D are those that Apache wrote for the same requests."""
+        with open(os.path.join(SERVED, "apache_times.log"), "rb") as file:
+            took = {line.split(b'"')[1]: line.split(b" ")[4] for line in file}
+        with open(os.path.join(SERVED, "apache_combined.log"), "rb") as file:
+            lines = [line.rstrip(b"\n") for line in file]
+        expected, _ = self.convert(lines)
+        text, said = self.convert([line + b" " + took[line.split(b'"')[1]] for line in lines])
+        self.assertIn("format combined_us: 60 records", said)
+        self.assertEqual(text, expected)
+
+
 class Served(test_support.ToolTest):
     """capture_from_log.py on the logs of served/, against what the client sent"""
 
@@ -412,9 +490,10 @@ class Served(test_support.ToolTest):
         self.assertLessEqual(max(distances) - min(distances), tolerance, distances)
 
     def test_logs_with_durations(self):
-        for name, form, words in [("nginx_timed", "timed", []), ("nginx_json", "json", [])]:
-            text, said = self.convert("served/%s.log" % name, *words)
-            self.expect_times(text, "nginx", self.TOLERANCE)
+        for name, form, server in [("nginx_timed", "timed", "nginx"), ("nginx_json", "json", "nginx"),
+                                   ("caddy", "caddy", "caddy"), ("haproxy", "haproxy", "haproxy")]:
+            text, said = self.convert("served/%s.log" % name)
+            self.expect_times(text, server, self.TOLERANCE)
             self.assertIn("format %s: 60 records, 60 connections" % form, said)
             self.assertEqual(said.count("\n"), 1)
 
@@ -619,7 +698,8 @@ class Faults(test_support.ToolTest):
                b'{"msec":NaN,"request":"x"}\n', b"\0\xff\n", b'{"msec":1' + b"0" * 5000 + b',"request":"x"}\n']
         text, said = self.run_tool(capture_from_log, ["--lenient"], line + b"".join(odd))
         self.assertEqual(text, capture((0, 0, GET)))
-        self.assertIn("%d lines of another format" % len(odd), said)
+        self.assertIn("%d lines of another format" % (len(odd) - 1), said)
+        self.assertIn("1 lines without msec (the first is line 7 of", said)  # NaN is no number of JSON
 
     def test_closed_standard_error(self):
         words = ["sh", "-c", '"$0" "$@" 2>&-', self.TOOL, "--lenient", "--output", self.output,

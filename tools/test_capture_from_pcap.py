@@ -533,6 +533,81 @@ class Packets(test_support.ToolTest):
             self.assertTrue((kept + body + GET).startswith(first))
             self.assertEqual(first.count(b"\r\n\r\n"), sent[:at].count(b"\r\n\r\n"))
 
+    CHUNKS = b"5;x=y\r\nGET /\r\nA\r\n0123456789\r\n0\r\nTrailer: x\r\n\r\n"  # RFC 9112, 7.1
+    HEAD = b"POST /u?v HTTP/1.1\r\nHost: a\r\n%bAccept: */*\r\n\r\n"
+    UPLOADS = {  # what is sent, and what is written of it
+        "chunks": (HEAD % b"Transfer-Encoding: gzip, Chunked\r\n" + CHUNKS, HEAD % b""),
+        "chunks and a length": (HEAD % b"transfer-encoding: chunked\r\nContent-Length: 3\r\n" + CHUNKS, HEAD % b""),
+        "a long body": (HEAD % b"Content-length:  065537 \r\n" + b"\r\nx" * 21845 + b"xx", HEAD % b""),
+        "a long head": (HEAD % (b"Cookie: %b\r\nX: y\r\n z\r\nIf-None-Match: x\r\nContent-Length: 3\r\n" % (
+            b"c" * 9000)) + b"abc",
+            b"POST /u?v HTTP/1.1\r\nHost: a\r\nIf-None-Match: x\r\nContent-Length: 3\r\n\r\nabc"),
+    }
+
+    def test_uploads(self):
+        """A request that a replay would refuse, and what follows it on its connection; by the program where it is
+        built: 405 of a POST (docs/RULES.md, Methods and targets), 200 of a GET."""
+        for name, (sent, kept) in self.UPLOADS.items():
+            with self.subTest(name):
+                packets = [(0, packet(99, b"", SYN))]
+                packets += [(1, packet(100 + at, (sent + GET)[at:at + 60_000]))
+                            for at in range(0, len(sent + GET), 60_000)]
+                text, said = self.convert(pcap(packets))
+                self.assertEqual(texts_of(read_capture(text)[1]), {0: kept + GET})
+                self.assertIn("note: 1 requests with a body in chunks or above 65,536 bytes, or a head above 8,192, "
+                              "written without\n", said)
+                self.expect_counts("bypassed 0", "status 200 1", "status 405 1")
+                text, said = self.convert(pcap(packets), "--as-recorded")
+                self.assertEqual(texts_of(read_capture(text)[1]), {0: sent + GET})
+                self.assertNotIn("note", said)
+                self.expect_counts("bypassed 1", "status 200 0", "status 405 0")
+
+    def expect_counts(self, *lines):
+        """Expects these lines of the report of the capture that was written."""
+        if os.path.exists(test_support.PROGRAM):
+            words = [test_support.PROGRAM, "replay", "--snapshot", test_support.SNAPSHOT, "--capture", self.output,
+                     "--replies", "/dev/null"]
+            report = subprocess.run(words, stdout=subprocess.PIPE, check=True, timeout=60).stdout.decode().splitlines()
+            self.assertLessEqual(set(lines), set(report))
+
+    def test_uploads_cut_anywhere(self):
+        """The request comes where its body ends."""
+        sent, kept = self.UPLOADS["chunks"]
+        for at in range(1, len(sent), 4):
+            text, _ = self.convert(pcap([(0, packet(99, sent[:at], SYN)), (5, packet(100 + at, sent[at:] + GET))]))
+            _, records = read_capture(text)
+            self.assertEqual(texts_of(records), {0: kept + GET})
+            first = b"".join(data for tick, _, data in records if tick == 0)
+            self.assertTrue(kept.startswith(first) and b"\r\n\r\n" not in first)
+
+    def test_bodies_that_stay(self):
+        """Bodies that a replay reads over, and what it would refuse for something else; a body that has no end."""
+        sound = self.HEAD % b"Content-Length: 65536\r\n" + b"\n" * 65536
+        for sent in (sound, self.HEAD % b"Content-Length: 5\r\nTransfer-Encoding: chunked\r\n" + self.CHUNKS,
+                     self.HEAD % b"Transfer-Encoding: identity\r\n", b"\r\n\r\n" + GET, b"GET /" + b"x" * 70_000,
+                     self.HEAD % (b"A: %b\r\n" % (b"x" * (8192 - len(self.HEAD % b"A: \r\n")))),
+                     self.HEAD % b"Content-Length: 70000x\r\n", b"\0" * 100_000):
+            packets = [(0, packet(99, b"", SYN)), *((1, packet(100 + at, sent[at:at + 1400]))
+                                                    for at in range(0, len(sent), 1400))]
+            text, said = self.convert(pcap(packets))
+            self.assertEqual(texts_of(read_capture(text)[1]), {0: sent})
+            self.assertNotIn("note", said)
+        broken = self.HEAD % b"Transfer-Encoding: chunked\r\n" + b"5\r\nabcde\r\nnone\r\n"
+        self.expect([(0, packet(99, b"", SYN)), (1, packet(100, broken + GET))], (1, 0, self.HEAD % b""),
+                    said="1 connections ended by a body whose chunks are broken")
+        cut = self.HEAD % b"Transfer-Encoding: chunked\r\n" + b"5\r\nab"
+        self.expect([(0, packet(99, b"", SYN)), (1, packet(100, cut, FIN | ACK))],
+                    (1, 0, (self.HEAD % b"")[:-2]), (1, 0))
+
+    def test_a_long_head_in_several_packets(self):
+        """Of a field that came in the first ones a part stays."""
+        sent = self.UPLOADS["a long head"][0]
+        packets = [(at, packet(100 + at, sent[at:at + 1400])) for at in range(0, len(sent), 1400)]
+        begin = sent[:2800]  # of the first 4,096 bytes what packets brought
+        text, _ = self.convert(pcap([(0, packet(99, b"", SYN)), *packets]))
+        self.assertEqual(texts_of(read_capture(text)[1]), {
+            0: begin + b"\r\nIf-None-Match: x\r\nContent-Length: 3\r\n\r\nabc"})
+
     def test_served_packets(self):
         text, said = self.run_tool(capture_from_pcap, ["--port", "18101"], "served/nginx.pcap")
         self.assertNotIn("left out", said)
@@ -628,7 +703,7 @@ class Faults(test_support.ToolTest):
     def test_standard_input(self):
         with open(os.path.join(DATA, "loopback.pcap"), "rb") as file:
             said = self.run_program(self.TOOL, "--port", "18098", "--output", self.output, "-", stdin=file)
-        self.assertEqual(said, (0, "capture_from_pcap: 132 records, 15 connections, 54588 bytes\n"))
+        self.assertEqual(said, (0, "capture_from_pcap: 131 records, 15 connections, 54588 bytes\n"))
         with open(self.output, "rb") as file:
             self.assertEqual(len(texts_of(read_capture(file.read())[1])), 15)
 

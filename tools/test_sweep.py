@@ -32,6 +32,7 @@ PROGRAM = TOP / "crates" / "haboob" / "out" / "haboob"
 EXAMPLES = TOP / "examples"
 sys.path.insert(0, str(TOOLS))
 import decision_tables
+import pages
 import response_delays
 import server_lines
 import settings_documents
@@ -244,7 +245,7 @@ class Figures(unittest.TestCase):
     def test_rows(self):
         self.assertEqual(self.figures(ROWS), {
             "admitted": 3, "rejected": 3, "p50": 300, "p90": 400, "p99": 400, "rejected_while_idle": 2, "greatest": 400,
-            "most_inside": 2, "busy": 700, "span": 4200, "tiers": {
+            "most_inside": 2, "busy": 700, "span": 4200, "asked": 3, "missing": 0, "tiers": {
                 "0": {"admitted": 3, "rejected": 2, "rejected_while_idle": 1, "p50": 300, "p90": 400, "p99": 400,
                       "greatest": 400},
                 "1": {"admitted": 0, "rejected": 1, "rejected_while_idle": 1, "p50": None, "p90": None, "p99": None,
@@ -254,7 +255,7 @@ class Figures(unittest.TestCase):
         report = REPORT.format(0, 0, "-").replace("300", "-").replace("p90 400", "p90 -")
         self.assertEqual(self.figures("0,0,1150,0,400,bypassed,,,,,,,,\n", report), {
             "admitted": 0, "rejected": 0, "p50": None, "p90": None, "p99": None, "rejected_while_idle": 0,
-            "greatest": None, "most_inside": 0, "busy": 0, "span": 0, "tiers": {}})
+            "greatest": None, "most_inside": 0, "busy": 0, "span": 0, "asked": 0, "missing": 0, "tiers": {}})
 
     def test_a_report_with_the_last_controls_alone(self):
         some = "controls 1002\ncontrol 3 1000 200 190 1000\ncontrol 4 2000 200 190 900\ntier 1 3 1 9\n"
@@ -315,14 +316,16 @@ class Delays(unittest.TestCase):
 class Documents(unittest.TestCase):
     def test_document(self):
         base = {"policy": {"rate": 5, "every": 7}, "floor": {"front_cuts": [1, 3]}}
-        document = settings_documents.text_of(base, ("policy.rate", "tier1.depth"), (9, 2))
+        document = settings_documents.text_of(
+            settings_documents.with_values(base, ("policy.rate", "tier1.depth"), (9, 2)))
         self.assertEqual(
             document, "[floor]\nfront_cuts = [1, 3]\n\n[policy]\nevery = 7\nrate = 9\n\n[tier1]\ndepth = 2\n")
         self.assertEqual(base["policy"]["rate"], 5)
 
     def test_routes(self):
         text = b'[[route]]\nprefix = "/\\"\\u007f"\ncost = 1\n\n[[route]]\nprefix = "/"\ncost = 2\n'
-        document = settings_documents.text_of(settings_documents.parsed(text, "a"), ("costs.file",), (9,))
+        document = settings_documents.text_of(
+            settings_documents.with_values(settings_documents.parsed(text, "a"), ("costs.file",), (9,)))
         self.assertEqual(document, '[costs]\nfile = 9\n\n[[route]]\ncost = 1\nprefix = "/\\"\\u007f"\n\n'
                          '[[route]]\ncost = 2\nprefix = "/"\n')
         for text in ("route = 1", "route = [1]", "[[route]]\ncost = 1.5\n"):
@@ -330,7 +333,7 @@ class Documents(unittest.TestCase):
                 settings_documents.parsed(text.encode(), "a")
 
     def test_fixed_rate(self):
-        self.assertEqual(settings_documents.text_of({}, ("policy.fixed_rate",), (9,)),
+        self.assertEqual(settings_documents.text_of(settings_documents.with_values({}, ("policy.fixed_rate",), (9,))),
                          "[policy]\nrate = 9\nrate_max = 9\nrate_min = 9\n")
 
     def test_unbeaten(self):
@@ -368,14 +371,31 @@ class Sweep(Base):
         self.assertIn("6 combinations, 3 unbeaten, 0 refused", page)
         rows = [re.findall("<td>(.*?)</td>", line) for line in page[:page.index("By tier")].splitlines()
                 if line.startswith("<tr><td>")]
-        self.assertEqual([row[:-1] for row in rows], [
-            ["4", "0.02", "1", "20.00", "0.300", "0.400", "0.900", "0.400", "2", "2", "0.167"],
-            ["6", "0.02", "3", "20.00", "0.300", "0.400", "0.900", "0.400", "2", "2", "0.167"],
-            ["3", "0.01", "3", "40.00", "0.300", "0.400", "0.400", "0.400", "2", "2", "0.167"]])
-        self.assertIn("<th>policy.rate, requests a second</th>", page)
+        self.assertRegex(rows[0][0], '^<a href="settings/[0-9a-f]{16}[.]toml">4</a>$')
+        self.assertEqual([[re.sub("<.*?>", "", cell) for cell in row] for row in rows], [
+            ["4", "0.02", "1", "20.00", "0.300", "0.400", "0.900", "0.400", "2", "2", "16.7"],
+            ["6", "0.02", "3", "20.00", "0.300", "0.400", "0.900", "0.400", "2", "2", "16.7"],
+            ["3", "0.01", "3", "40.00", "0.300", "0.400", "0.400", "0.400", "2", "2", "16.7"]])
+        self.assertIn("<th>policy.<wbr>rate, requests a second</th>", page)
         self.assertIn(">4, 6</text>", page)  # a label in the picture
         self.assertNotIn("src=", page)
         self.assertIsNone(re.search('(href|url)="?[(]?https?:', page))
+
+    def test_strange_snapshot(self):
+        """Nine in ten of the requests that look for a file find none: a POST (405) looks for none."""
+        def row(number, status):
+            return "%d,0,%d,0,%d,admitted,10,0,1000,%d,%d,0,GET,/a\n" % (number, number, status, number, number + 10)
+        self.draw()
+        sound = [404] * 8 + [200, 304]
+        strange = [404] * 9 + [301, 405]
+        for statuses, words in ((sound, ""), ([404] * 9, ""), (strange, "of 10 requests for files 9 ask")):
+            self.folder.plan(table=HEADING + "".join(map(row, range(len(statuses)), statuses)))
+            self.folder.capture.write_text("capture %r" % statuses)
+            status, errors = swept(self.folder.words())
+            self.assertEqual(status, 0)
+            for text in (errors, self.folder.page()):
+                self.assertEqual("WARNING" in text, bool(words))
+                self.assertIn(words, text)
 
     def test_refused(self):
         self.draw()
@@ -552,7 +572,7 @@ class Choice(Base):
         self.draw()
         self.chosen("--at-most", "p99=400")
         page = self.folder.page()
-        self.assertEqual(page.count('<tr class="chosen"><td>3</td>'), 3)  # its row, and that of either tier
+        self.assertEqual(len(re.findall('<tr class="chosen"><td>(?:<a [^>]*>)?3<', page)), 3)  # and that of either tier
         self.assertIn("chosen: row 3", page)
         self.assertIn("p99 at most 0.4 ms", page)
 
@@ -597,7 +617,7 @@ class Captures(Base):
         self.draw()
         swept(self.folder.words("--capture", str(self.weekend)))
         page = self.folder.page()
-        cells = ["<td>%s</td>" % cell for cell in ("worst", self.weekend, self.folder.capture)]
+        cells = ["<td>%s</td>" % cell for cell in ("worst", self.weekend.name, self.folder.capture.name)]
         for cell in ("<th>capture</th>", *cells):
             self.assertIn(cell, page)
 
@@ -738,6 +758,27 @@ class Axes(unittest.TestCase):
         self.assertTrue(least < 0.4 and greatest > 200)
         labels = [axes.yaxis.get_major_formatter()(mark) for mark in axes.get_yticks() if least <= mark <= greatest]
         self.assertEqual(labels, ["0.5", "1", "2", "5", "10", "20", "50", "100", "200"])
+
+
+class Labels(unittest.TestCase):
+    def test_apart(self):
+        """No label covers another, or a mark; of points at one place not all have one."""
+        figure, axes = pages.pyplot.subplots(figsize=(6.4, 4.6), dpi=72)
+        axes.set_xlim(0, 10)
+        axes.set_ylim(0, 10)
+        points = {(5 + 0.01 * place, 5 - 0.01 * place): str(100 + place) for place in range(30)}
+        points.update({(0.0, 9.0): "200", (9.9, 0.1): "201"})
+        sweep_page.add_labels(axes, points, [(list(points), 5), ([], 3)])
+        texts = {text.get_text(): text.get_window_extent() for text in axes.texts}
+        marks = [axes.transData.transform(point) for point in points]
+        self.assertGreaterEqual(len(texts), 6)
+        self.assertLess(len(texts), len(points))
+        self.assertLessEqual({"200", "201"}, set(texts))
+        for name, box in texts.items():
+            self.assertFalse(any(box.overlaps(other) for one, other in texts.items() if one != name), name)
+            self.assertFalse(any(box.contains(*mark) for mark in marks), name)
+            self.assertGreaterEqual(box.x0, axes.bbox.x0, name)
+        pages.pyplot.close(figure)
 
 
 class Cells(unittest.TestCase):
@@ -943,6 +984,22 @@ class Faults(Base):
         self.check(self.folder.words("--set", "policy.depth=5"), 2, begin + "a key comes twice")
         self.check(self.folder.words("--cluster", "foo://a:1"), 2, begin.replace("--set", "--cluster") +
                    "'foo://a:1' is no address such as tcp://HOST:8786")
+        self.check(self.folder.words("--margin", "10"), 2, begin.replace("--set", "--margin") +
+                   "needs --at-most, which is to hold all over it")
+        for word in ("0", "91", "1.5", "-1"):
+            self.check(self.folder.words("--at-most", "p99=1", "--margin", word), 2,
+                       begin.replace("--set", "--margin") + "'%s' is no whole number of percent from 1 to 90" % word)
+        self.assertEqual(self.folder.calls(), [])
+
+    def test_routes(self):
+        self.check(self.folder.words("--set", "route./a.b/.cost=1"), 1,
+                   "sweep: --set: route./a.b/.cost: --settings has no route with the prefix /a.b/")
+        self.folder.settings.write_text("[[route]]\nprefix = '/a'\ncost = 3\n[[route]]\nprefix = '/b'\ncost = 3\n")
+        words = ["--settings", str(self.folder.settings)]
+        self.check(self.folder.words(*words, "--set", "route./c.cost=1"), 1,
+                   "sweep: --set: route./c.cost: --settings has no route with the prefix /c; it has /a, /b")
+        self.check(self.folder.words(*words, "--set", "route./a.prefix=1"), 1,
+                   "sweep: --set: route./a.prefix: a route has cost, kib, delay")
         self.assertEqual(self.folder.calls(), [])
 
     def test_files(self):
@@ -1101,6 +1158,62 @@ class Program(Base):
             self.assertEqual([found["tier%s.%s" % (tier, name)] for name in names],
                              [str(len(times)), str(away), str(times[math.ceil(0.99 * len(times)) - 1]), str(times[-1])])
         self.assertEqual((found["tier1.admitted"], found["tier1.rejected"]), ("81", "159"))  # as docs/WALK.md has them
+
+    def test_margin(self):
+        """Ten requests that come at once, each a millisecond's work on a route: of so many as are let in the last waits
+        for all before it; with costs a tenth lower and higher 9 of them take 8.1 and 9.9 milliseconds. The server is at
+        work all along."""
+        self.draw()
+        self.folder.program, self.folder.snapshot = PROGRAM, EXAMPLES / "site.snapshot"
+        pieces = "".join("piece 0 %d 28\nGET /x HTTP/1.1\r\nHost: a\r\n\r\n\n" % place for place in range(10))
+        self.folder.capture.write_text("haboob-capture 2 0\n%sstop 10\n" % pieces, newline="")
+        self.folder.settings.write_text("[[route]]\nprefix = '/x/'\ncost = 7\n[policy]\nrate = 1\nrate_min = 1\n")
+        words = ["--settings", str(self.folder.settings), "--at-most", "p99=10000", "--set", "route./x.cost=1000"]
+        grid = ("--set", "policy.depth=8,9,10")
+        status, errors, output = swept_and_said(self.folder.words(*words, grid=grid))
+        self.assertEqual(status, 0, errors)
+        self.assertIn("# row 3: policy.depth 10, route./x.cost 1000: 0.00% turned away, p99 10.000 ms\n", output)
+        words += ["--margin", "10"]
+        status, errors, output = swept_and_said(self.folder.words(*words, grid=grid))
+        self.assertIn("# row 2: policy.depth 9, route./x.cost 1000: 10.00% turned away, p99 9.000 ms (8.100 ms to "
+                      "9.900 ms)\n", output)
+        self.assertIn("WARNING: row 2 keeps the server busy for 100% of its time at costs 10% higher: above", errors)
+        self.assertNotIn("bears", errors)
+        self.assertIn("WARNING: row 2 keeps the server busy", self.folder.page())
+        self.assertIn("<td>9.000<br><small>8.100\u20139.900</small></td>", self.folder.page())
+        with open(self.folder.path / "swept" / "sweep.csv", newline="") as file:
+            rows = list(csv.DictReader(file))
+        names = ("lower.p99", "p99", "upper.p99", "lower.busy_share")
+        self.assertEqual([[row[name] for name in names] for row in rows],
+                         [[str(depth * part) for part in (900, 1000, 1100)] + ["1.000000"] for depth in (8, 9, 10)])
+        self.check(self.folder.words(*words, grid=("--set", "policy.depth=10")), 1,
+                   "sweep: no combination is within p99=10000 at costs 10% lower and higher: the least p99 is 11000")
+
+    def test_rate_beyond_the_server(self):
+        """Of one request the server is busy for a millisecond, so it bears 1,000 a second; 910 of a fixed rate are 91%
+        of that, and 830 at costs a tenth higher 91.3%."""
+        self.folder.program, self.folder.snapshot = PROGRAM, EXAMPLES / "site.snapshot"
+        self.folder.capture.write_bytes(b"haboob-capture 2 0\n" + b"".join(
+            b"piece %d 0 28\nGET /x HTTP/1.1\r\nHost: a\r\n\r\n\n" % time for time in (0, 10**6)) + b"stop 2\n")
+        self.folder.settings.write_text("[[route]]\nprefix = '/'\ncost = 1000\n")
+        margin, told = ("--margin", "10"), "%d requests a second, 91%% of what the server bears%s: above"
+        for rate, words, told in ((900, (), None), (910, (), told % (910, "")), (810, margin, None),
+                                  (830, margin, told % (830, " at costs 10% higher"))):
+            status, errors = swept(self.folder.words("--settings", str(self.folder.settings), "--at-most", "p99=9999",
+                                                     *words, grid=("--set", "policy.fixed_rate=%d/s" % rate)))
+            self.assertEqual((status, "WARNING" in errors), (0, bool(told)), errors)
+            self.assertIn(told or "", errors)
+
+    def test_costs_of_a_margin(self):
+        """Those of the defaults too, in whole microseconds, and none lower than the program takes; a delay is none."""
+        defaults = {"costs": {"file": 200, "kib": 10, "error": 50, "servers": 1, "delay": 0}}
+        tables = {"costs": {"file": 1, "delay": 70}, "route": [{"prefix": "/a", "cost": 15, "kib": 3, "delay": 9}]}
+        found = settings_documents.with_costs(tables, defaults, 90)
+        self.assertEqual(found, {"costs": {"file": 1, "kib": 9, "error": 45, "delay": 70},
+                                 "route": [{"prefix": "/a", "cost": 14, "kib": 3, "delay": 9}]})
+        line = "^costs.file would be 1100000, and the program takes 1 to 1000000$"
+        with self.assertRaisesRegex(tool_run.Fault, line):
+            settings_documents.with_costs({"costs": {"file": 10**6}}, defaults, 110)
 
     def test_delays(self):
         """Of one tier the percentiles that are made of the table are those of the report, which has every delay."""

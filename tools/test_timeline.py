@@ -115,6 +115,17 @@ class Figures(Base):
                          ["3", "2", "1", "10", "300", "900", "1"])
         self.assertAlmostEqual(float(rows[0]["busy_share"]), 310 / 10**7, 9)
 
+    def test_strange_snapshot(self):
+        """Nine in ten of the requests that look for a file find none."""
+        found = [admitted(number, number, 10) for number in range(10)]
+        missing = [row.replace(",200,", ",404,") for row in found]
+        for rows, is_strange in ((missing[:9], False), (missing[:8] + found[8:], False),
+                                 (missing[:9] + found[9:], True)):
+            status, error, texts = self.run_on(HEADING + "".join(rows))
+            for text in (error, texts["page"]):
+                self.assertEqual("WARNING: of 10 requests for files 9 ask for what the snapshot" in text, is_strange)
+            self.assertEqual(status, 0)
+
     def test_window(self):
         rows = self.rows(TABLE, "--step", "1", "--from", "0.6", "--to", "2")
         self.assertEqual([row["offered"] for row in rows], ["1", "0"])
@@ -304,13 +315,56 @@ class Page(Base):
         texts = [self.run_on(TABLE)[2]["page"] for _ in range(2)]
         self.assertEqual(texts[0], texts[1])
 
+    def test_tiers_on_axes_of_their_own(self):
+        """Of two tiers rates and credits have an axis each, which ends a little above its own values."""
+        rates, drawn = (10**9, 2_000), []
+        table = HEADING + "".join(admitted(number, number * 10**6, 10, tier=number % 2, rate=rates[number % 2])
+                                  for number in range(8))
+
+        with unittest.mock.patch.object(pages, "svg_of", lambda figure: drawn.append(figure) or "<svg/>"):
+            self.run_on(table, "--step", "1")
+        tops = [[axes.get_ylim()[1] for axes in figure.axes] for figure in drawn]
+        self.assertEqual([len(of) for of in tops], [1, 1, 1, 1, 2, 2, 1, 1])
+        self.assertEqual([round(top, 6) for top in tops[4]], [1.05 * 10**6, 2.1])
+        self.assertEqual([axes.get_ylabel() for axes in drawn[4].axes], ["tier 0", "tier 1"])
+        pages.pyplot.close("all")
+
+    def test_last_step(self):
+        """A step is whole where a message comes in its last tenth; else it is hatched, from the step before on."""
+        for last, is_part in ((2_899_999, True), (2_900_000, False)):
+            drawn = []
+            with unittest.mock.patch.object(pages, "svg_of", lambda figure: drawn.append(figure) or "<svg/>"):
+                rows = [admitted(number, tick, 10) for number, tick in enumerate((0, 10**6, last))]
+                self.run_on(HEADING + "".join(rows), "--step", "1")
+            for figure in drawn:
+                spans = [patch for patch in figure.axes[0].patches if patch.get_hatch()]
+                self.assertEqual([patch.get_xy()[:, 0].min() for patch in spans], [1.0] * is_part)
+                texts = [text.get_text() for legend in filter(None, [figure.axes[0].get_legend()])
+                         for text in legend.get_texts()]
+                self.assertEqual("last step, not whole" in texts, is_part)
+            pages.pyplot.close("all")
+
+    def test_labels_below(self):
+        """A label that would stick out of the picture ends at its place."""
+        figure, (axes,) = pages.axes_of(1)
+        axes.set_xlim(0, 100)
+        pages.set_labels_below(axes, [0, 50, 99.5], ["18:49:39.25"] * 3)
+        self.assertEqual([text.get_horizontalalignment() for text in axes.get_xticklabels()],
+                         ["center", "center", "right"])
+        pages.pyplot.close(figure)
+        for span, is_of_day, begin in ((2.1, True, 784147777), (3_000, True, 784147777), (10**5, True, 784147777),
+                                       (10**7, True, 784147777), (0.5, False, 0)):
+            places, labels = steps.labels_between(begin, 0, span, is_of_day)
+            room = (pages.WIDTH - pages.LEFT - pages.RIGHT) * (places[1] - places[0]) / span
+            self.assertLess(max(len(row) for label in labels for row in label.split("\n")) * pages.DIGIT, 1.1 * room)
+
     def test_times_of_axes(self):
         self.assertEqual(steps.marks_between(0, 10), [0, 2, 4, 6, 8, 10])
         self.assertEqual(steps.marks_between(784111777, 784111777 + 3600),
                          [784112400 + 900 * place for place in range(4)])
         self.assertEqual(steps.time_in_words(784111777, 10, True), "8:49:37")
-        self.assertEqual(steps.time_in_words(784111777, 3 * 86_400, True), "Nov 06 8:49")
-        self.assertEqual(steps.time_in_words(784111777, 30 * 86_400, True), "1994-11-06")
+        self.assertEqual(steps.time_in_words(784111777, 3 * 86_400, True), "8:49\nNov 06")
+        self.assertEqual(steps.time_in_words(784111777, 30 * 86_400, True), "Nov 06\n1994")
         self.assertEqual(steps.time_in_words(3_725, 10_000, False), "1:02")
         self.assertEqual(steps.time_in_words(0.25, 1, False), "0:00:00.25")
 

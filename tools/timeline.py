@@ -123,11 +123,14 @@ class Gathering:
         self.queue = decision_tables.Queue()
         self.at_work = decision_tables.Queue()  # the services that began and haven't ended
         self.rates = [None] * TIERS  # the last of each tier
+        self.until = 0  # the last tick that a message came at
+        self.asked = self.missing = 0  # admitted requests that looked for a file, and those of them that found none
         self.room = TARGETS_ROOM
         self.targets = collections.defaultdict(lambda: [0] * (2 * TIERS))  # asked, and turned away, of each tier
 
     def take(self, row):
         """Takes a row."""
+        self.until = min(row.tick, self.window[1])
         if row.decision == "admitted":
             complete = row.finish + self.delays.of(row.target)
             inside = self.queue.admit(row.tick, complete)
@@ -144,6 +147,8 @@ class Gathering:
         if row.decision == "admitted":
             step.samples.append(complete - row.tick)
             step.inside = max(step.inside, inside)
+            self.asked += row.status in decision_tables.OF_FILES
+            self.missing += row.status == decision_tables.MISSING
 
     def offer(self, step, row):
         """Takes a request into its step."""
@@ -180,6 +185,12 @@ class Gathering:
             until = min(finish, (start // self.steps.width + 1) * self.steps.width)
             self.steps.at(start).busy += until - start
             start = until
+
+
+def last_whole(gathered):
+    """The second up to which the steps are whole: messages come to the last tenth of each at least."""
+    number, rest = divmod(gathered.until, gathered.steps.width)
+    return (number + (rest >= gathered.steps.width * 9 // 10)) * gathered.steps.width / TICKS_IN_SECOND
 
 
 def columns_of(gathered):
@@ -224,36 +235,70 @@ def scaled(values, divisor):
 class Pictures:
     """Draws pictures over the same steps, so that a time stands below itself."""
 
-    def __init__(self, columns, start, width, targets, servers):
+    def __init__(self, columns, start, width, targets, servers, whole):
         self.columns = columns
         self.places = columns["second"]
         self.start = start  # seconds since 1970; None where it isn't known
         self.width = width / TICKS_IN_SECOND
         self.targets = targets  # ticks by tier; none where the settings aren't known
         self.servers = servers
+        self.whole = whole  # the second up to which the steps are
         self.tiers = tiers_in(columns)
+        self.first, self.last = min(self.places, default=0), max(self.places, default=0) + self.width
+        self.times = steps.labels_between(self.start or 0, self.first, self.last, self.start is not None)
 
     def picture(self, title, lines, top=None, draw=None, more=0):
         """A picture of lines over the steps, as HTML. `draw` adds so many more entries of the legend to its axes."""
-        figure, axes = pages.axes_of(len(lines) + more)
-        pages.draw_lines(axes, self.places, lines)
-        values = [value for _, of in lines for value in of if not math.isnan(value)]
+        count = len(lines) + more + self.has_part()
+        figure, (axes,) = pages.axes_of(count, 1, self.rows_below())
+        self.draw_over_time(axes, lines, top)
         if draw:
             draw(axes)
-        axes.set_ylim(0, top or 1.05 * max(values, default=0) or 1)
-        first, last = (min(self.places, default=0), max(self.places, default=0) + self.width)
-        axes.set_xlim(first - 0.02 * (last - first), last)
-        self.set_times(axes, first, last)
-        pages.add_legend(axes, len(lines) + more)
+        self.set_times(axes)
+        pages.add_legend([axes], count)
         return "<h2>%s</h2>\n%s" % (title, pages.svg_of(figure))
 
-    def set_times(self, axes, first, last):
+    def panels(self, title, lines, draw=None, more=0):
+        """A picture in which each line has axes of its own, as HTML: their values may be of different sizes. `draw`
+        adds entries to the axes of a place."""
+        if len(lines) < 2:
+            return self.picture(title, lines, None, more and (lambda axes: draw(axes, 0)), more)
+        figure, all_axes = pages.axes_of(more + self.has_part(), len(lines), self.rows_below())
+        for place, (axes, (label, values)) in enumerate(zip(all_axes, lines)):
+            self.draw_over_time(axes, [(None, values)])
+            axes.set_ylabel(label)
+            axes.yaxis.set_label_position("right")
+            axes.yaxis.set_major_locator(ticker.MaxNLocator(3))
+            axes.tick_params(labelbottom=False)
+            if draw:
+                draw(axes, place)
+        self.set_times(all_axes[-1])
+        all_axes[-1].tick_params(labelbottom=True)
+        pages.add_legend(all_axes, more + self.has_part())
+        return "<h2>%s</h2>\n%s" % (title, pages.svg_of(figure))
+
+    def draw_over_time(self, axes, lines, top=None):
+        """Draws lines over the steps, up to a top; the steps that aren't whole are hatched."""
+        pages.draw_lines(axes, self.places, lines)
+        if self.has_part():
+            axes.axvspan(max(self.first, self.whole - self.width), self.last, facecolor="none", edgecolor="0.75",
+                         hatch="//", linewidth=0, zorder=0, label="last step, not whole")
+        values = [value for _, of in lines for value in of if not math.isnan(value)]
+        axes.set_ylim(0, top or 1.05 * max(values, default=0) or 1)
+        axes.set_xlim(self.first - 0.02 * (self.last - self.first), self.last)
+        axes.set_xticks(self.times[0])
+
+    def has_part(self):
+        """Whether a step isn't whole."""
+        return bool(self.places) and self.whole < self.last
+
+    def rows_below(self):
+        """How many rows a time below the axis has."""
+        return 1 + max((label.count("\n") for label in self.times[1]), default=0)
+
+    def set_times(self, axes):
         """Writes times below the axis, at whole minutes, hours or days where it is long."""
-        begin = self.start or 0
-        between = steps.marks_between(begin + first, begin + last)
-        axes.xaxis.set_major_locator(ticker.FixedLocator([mark - begin for mark in between]))
-        axes.xaxis.set_major_formatter(ticker.FuncFormatter(
-            lambda place, _: steps.time_in_words(begin + place, last - first, self.start is not None)))
+        pages.set_labels_below(axes, *self.times)
         axes.set_xlabel("time of day (UTC)" if self.start is not None else "time from the capture's start")
 
     def of_tiers(self, name, divisor=1):
@@ -274,18 +319,19 @@ class Pictures:
             label = "target" if len(aims) == 1 else "target of tier " + ", ".join(tiers)
             axes.axhline(time, color="0.3", linewidth=2, linestyle=stroke, label=label)
 
-    def control_points(self):
-        """The places and rates at which controls raised a rate, and at which they lowered one; no empty kind."""
-        points = {name: [(place, rate / 1000) for tier in self.tiers for place, rate, count in zip(
+    def control_points(self, tiers):
+        """The places and rates at which controls raised a rate of some tiers, and at which they lowered one; no empty
+        kind."""
+        points = {name: [(place, rate / 1000) for tier in tiers for place, rate, count in zip(
             self.places, self.columns["rate_%d" % tier], self.columns["%s_%d" % (name, tier)]) if count]
             for name in ("raised", "lowered")}
         return {name: of for name, of in points.items() if of}
 
-    def draw_controls(self, axes):
-        """Draws a mark where controls changed a rate."""
-        for name, points in self.control_points().items():
-            axes.plot(*zip(*points), "^" if name == "raised" else "v", color="black", markersize=6, clip_on=False,
-                      linestyle="none", label="%s by a control" % name)
+    def draw_controls(self, axes, place):
+        """Draws a mark where controls changed the rate of the tier at a place."""
+        for name, points in self.control_points([self.tiers[place]]).items():
+            axes.plot(*zip(*points), "^" if name == "raised" else "v", color="black", clip_on=False,
+                      markersize=6 if len(points) <= pages.FEW else 3, linestyle="none", label="%s by a control" % name)
 
     def all(self):
         """The pictures, from the top."""
@@ -302,9 +348,9 @@ class Pictures:
                            len(self.aims()))
         yield self.picture("In line: most requests that were admitted and not yet answered", [
             ("in line", columns["most_inside"])])
-        yield self.picture("Rate in force, tokens a second", self.of_tiers("rate", 1000), None, self.draw_controls,
-                           len(self.control_points()))
-        yield self.picture("Least credit found, tokens", self.of_tiers("least_credit", UNITS_IN_TOKEN))
+        yield self.panels("Rate in force, tokens a second", self.of_tiers("rate", 1000), self.draw_controls,
+                          len(self.control_points(self.tiers)))
+        yield self.panels("Least credit found, tokens", self.of_tiers("least_credit", UNITS_IN_TOKEN))
         busy = ("How busy the server was, percent of the time" if self.servers == 1 else
                 "How busy the servers were, percent of the time of %d" % self.servers)
         yield self.picture(busy, [("busy", scaled(columns["busy_share"], 0.01))])
@@ -379,7 +425,9 @@ def page_of(options, gathered, columns, start, aims):
         "settings %s" % options.settings if options.settings else "settings unknown (--settings)")
     body = "<p>%s. A step is %s.</p>\n<p>%s%s.</p>\n" % (
         html.escape(inputs), steps.width_in_words(width), counts, of_tiers)
-    pictures = Pictures(columns, start, width, aims, gathered.servers)
+    warning = decision_tables.strange_snapshot(gathered.asked, gathered.missing)
+    body += "<p>%s.</p>\n" % html.escape(warning) if warning else ""
+    pictures = Pictures(columns, start, width, aims, gathered.servers, last_whole(gathered))
     return pages.html_page(title_of(options), body + "\n".join(pictures.all()) + "\n" + table_of_targets(
         gathered.targets, tiers))
 
@@ -479,6 +527,9 @@ def work(options):
     gathered = Gathering(window_of(options, start), options.step, servers_of(options.settings, tables),
                          delays_of(options.settings, tables))
     gather(options, gathered)
+    warning = decision_tables.strange_snapshot(gathered.asked, gathered.missing)
+    if warning:
+        tool_run.say("%s: %s" % (TOOL, warning))
     columns = columns_of(gathered)
     page = page_of(options, gathered, columns, start, aims)
     written = [(options.output, lambda file: file.write(page)),

@@ -1,10 +1,14 @@
 #!/usr/bin/python3
-"""Records served/ beside itself: the same requests to nginx and to Apache, as logs of several formats and as packets.
+"""Records served/ beside itself: the same requests to nginx, Apache, HAProxy and Caddy, as logs of several formats, and
+those to nginx as packets.
 
-It needs nginx, apache2, tcpdump and the right to record (root), and the ports 18101 to 18103 of 127.0.0.1. A client
-sends 60 requests within some four seconds at times that are drawn with a seed; behind both servers stands a server of
-this script that answers each after the milliseconds that its query asks for, so that answers overtake one another.
-What the client sent, and when, is written to sent.txt: a line `<server> <microseconds since 1970> <request line>` each.
+    record_served.py [SERVER ..]
+
+It needs nginx, apache2, haproxy, caddy, tcpdump and the right to record (root), and the ports 18101 to 18105 of
+127.0.0.1; or what the named servers need, whose files alone are then written. A client sends 60 requests within some
+four seconds at times that are drawn with a seed; behind all servers stands a server of this script that answers each
+after the milliseconds that its query asks for, so that answers overtake one another. What the client sent, and when, is
+written to sent.txt: a line `<server> <microseconds since 1970> <request line>` each.
 """
 import concurrent.futures
 import http.server
@@ -13,13 +17,15 @@ import pathlib
 import random
 import socket
 import subprocess
+import sys
 import tempfile
 import threading
 import time
 import urllib.parse
 
 FOLDER = pathlib.Path(__file__).resolve().parent / "served"
-BACKEND, NGINX, APACHE = 18102, 18101, 18103
+BACKEND = 18102
+PORTS = {"nginx": 18101, "apache": 18103, "haproxy": 18104, "caddy": 18105}
 COUNT, SPAN = 60, 4.0  # requests, seconds
 MODULES = ("mpm_event", "authz_core", "proxy", "proxy_http")
 HEAD = ("GET /%s HTTP/1.1\r\nHost: www.example.org\r\nUser-Agent: client/1 \"quoted\"\r\n"
@@ -56,11 +62,42 @@ ProxyPass / http://127.0.0.1:18102/
 LogFormat "%%h %%l %%u %%t \\"%%r\\" %%>s %%O" common
 LogFormat "%%h %%l %%u %%t \\"%%r\\" %%>s %%O \\"%%{Referer}i\\" \\"%%{User-Agent}i\\"" combined
 LogFormat "%%v:%%p %%h %%l %%u %%t \\"%%r\\" %%>s %%O \\"%%{Referer}i\\" \\"%%{User-Agent}i\\"" vhost_combined
+LogFormat "%%h %%l %%u %%t \\"%%r\\" %%>s %%O \\"%%{Referer}i\\" \\"%%{User-Agent}i\\" %%D" combined_us
 LogFormat "%%h %%{usec}t %%{end:usec}t %%{end:msec}t %%D %%T %%{ms}T \\"%%r\\" %%>s" times
 CustomLog %(out)s/apache_common.log common
 CustomLog %(out)s/apache_combined.log combined
 CustomLog %(out)s/apache_vhost_combined.log vhost_combined
 CustomLog %(out)s/apache_times.log times
+"""
+HAPROXY_SETTINGS = """
+global
+    log stdout format raw local0
+defaults
+    mode http
+    log global
+    option httpslog
+    timeout client 10s
+    timeout connect 10s
+    timeout server 10s
+    timeout queue 10s
+frontend in
+    bind 127.0.0.1:18104
+    default_backend out
+backend out
+    server behind 127.0.0.1:18102 maxconn 6
+"""
+CADDY_SETTINGS = """
+{
+    admin off
+    auto_https off
+}
+http://:18105 {
+    bind 127.0.0.1
+    log {
+        output file %(out)s/caddy.log
+    }
+    reverse_proxy 127.0.0.1:18102
+}
 """
 
 
@@ -102,34 +139,49 @@ def ask_all(name, port, lines):
 
 
 def settings(at):
-    """Writes the settings of both servers; returns the words that start them."""
+    """Writes the settings of all servers; returns the words that start each, and the file for what it prints."""
     modules = "\n".join("LoadModule %s_module /usr/lib/apache2/modules/mod_%s.so" % (name, name) for name in MODULES)
-    for name, text in (("nginx", NGINX_SETTINGS), ("apache", APACHE_SETTINGS)):
+    for name, text in (("nginx", NGINX_SETTINGS), ("apache", APACHE_SETTINGS), ("haproxy", HAPROXY_SETTINGS),
+                       ("caddy", CADDY_SETTINGS)):
         (at / (name + ".conf")).write_text(text % {"at": at, "out": FOLDER, "modules": modules})
-    return [["nginx", "-c", str(at / "nginx.conf")],
-            ["apache2", "-X", "-d", str(at), "-f", str(at / "apache.conf")]]
+    return {"nginx": (["nginx", "-c", str(at / "nginx.conf")], os.devnull),
+            "apache": (["apache2", "-X", "-d", str(at), "-f", str(at / "apache.conf")], os.devnull),
+            "haproxy": (["haproxy", "-db", "-f", str(at / "haproxy.conf")], FOLDER / "haproxy.log"),
+            "caddy": (["caddy", "run", "--adapter", "caddyfile", "--config", str(at / "caddy.conf")], os.devnull)}
 
 
 def recorders():
-    """The words that start tcpdump: whole packets to the server, and all packets cut at 96 bytes."""
-    return [["tcpdump", "-i", "lo", "-s", size, "-U", "-w", str(FOLDER / name), rule] for size, name, rule in (
-        ("0", "nginx.pcap", "tcp dst port %d" % NGINX), ("96", "nginx_cut.pcap", "tcp port %d" % NGINX))]
+    """The words that start tcpdump: whole packets to nginx, and all packets cut at 96 bytes."""
+    return [(["tcpdump", "-i", "lo", "-s", size, "-U", "-w", str(FOLDER / name), rule], os.devnull)
+            for size, name, rule in (("0", "nginx.pcap", "tcp dst port %d" % PORTS["nginx"]),
+                                     ("96", "nginx_cut.pcap", "tcp port %d" % PORTS["nginx"]))]
+
+
+def emptied(servers):
+    """Takes the files of these servers away; returns the lines of sent.txt that are of others."""
+    FOLDER.mkdir(exist_ok=True)
+    for old in FOLDER.iterdir():
+        if old.name.startswith(tuple(servers)):
+            old.unlink()
+    sent = FOLDER / "sent.txt"
+    lines = sent.read_text().splitlines() if sent.exists() else []
+    return [line for line in lines if line.split(" ")[0] not in servers]
 
 
 def main():
-    FOLDER.mkdir(exist_ok=True)
-    for old in FOLDER.iterdir():
-        old.unlink()
+    servers = sys.argv[1:] or list(PORTS)
+    lines, started = emptied(servers), []
     backend = http.server.ThreadingHTTPServer(("127.0.0.1", BACKEND), Answer)
     threading.Thread(target=backend.serve_forever, daemon=True).start()
-    lines, started = [], []
     with tempfile.TemporaryDirectory() as at:
         try:
-            for words in settings(pathlib.Path(at)) + recorders():
-                started.append(subprocess.Popen(words, stderr=subprocess.DEVNULL))
+            known = settings(pathlib.Path(at))
+            for words, output in [known[name] for name in servers] + recorders() * ("nginx" in servers):
+                with open(output, "wb") as file:
+                    started.append(subprocess.Popen(words, stdout=file, stderr=subprocess.DEVNULL))
             time.sleep(2)
-            ask_all("nginx", NGINX, lines)
-            ask_all("apache", APACHE, lines)
+            for name in servers:
+                ask_all(name, PORTS[name], lines)
             time.sleep(1)
         finally:
             for process in reversed(started):
