@@ -14,8 +14,8 @@ else than a function's body gets a pass of its own, and so does what wasn't refu
   goal             a goal can't be proved: what a function ensures, what a call requires, an invariant, a loop, an index
   answer           the written proof of such a goal doesn't fit it any more
   limit            the checker came to a limit of its own at such a goal
-  word             by name alone, but `false_goal` says why a goal is false: that was seen by hand
-  name             by name alone: a proof names what the mutant took away, which says little of a contract
+  name             by name alone: a proof names what the mutant took away, which says little of a contract; the mutant is
+                   to be changed so that it keeps the name
   not refused      the crate is still proved
   doesn't compile  the compiler, or the reader of contracts, refuses the text
 
@@ -42,7 +42,7 @@ TOP = os.path.dirname(os.path.dirname(os.path.abspath(__file__)))
 TABLES = os.path.join(TOP, "checks", "mutants")
 PARTS = ("src", "specs", "proofs")
 MOST = 12  # in a pass, so that all processors have one, and little is lost where it is cut off
-REFUSED = ("values", "goal", "answer", "limit", "word")
+REFUSED = ("values", "goal", "answer", "limit")
 UNKNOWN, ALIVE, BROKEN = "no verdict", "not refused", "doesn't compile"
 HEAD = re.compile(r"^( *)(?:pub(?:\(\w+\))? )?(?:const |unsafe )*fn (\w+)")
 IMPL = re.compile(r"^( *)impl(?:<.*?>)? (.*) \{$")
@@ -173,7 +173,7 @@ def written(table, crate):
             rows = ["    { file = %s, old = %s, new = %s }," % tuple(map(quoted, change))
                     for change in changes_of(mutant)[1:]]
             lines += ["also = [", *rows, "]"]
-        for key in ("false_goal", "verdict", "tried"):
+        for key in ("verdict", "tried"):
             if key in mutant:
                 lines.append("%s = %s" % (key, quoted(mutant[key])))
         parts.append("\n".join(lines) + "\n")
@@ -427,9 +427,7 @@ class Trial:
         with self.writing:
             for mutant in self.table["mutant"]:
                 if mutant["name"] in verdicts:
-                    verdict = verdicts[mutant["name"]]
-                    is_seen = verdict == "name" and "false_goal" in mutant
-                    mutant.update(verdict="word" if is_seen else verdict, tried=own_sum(mutant))
+                    mutant.update(verdict=verdicts[mutant["name"]], tried=own_sum(mutant))
             self.table["record"] = {"text": self.text, "passes": self.before["passes"] + self.passes,
                                     "seconds": self.before["seconds"] + round(self.checker.seconds)}
             with open(os.path.join(TABLES, self.crate + ".toml"), "w", encoding="utf-8") as file:
