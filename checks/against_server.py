@@ -4,17 +4,19 @@
     checks/against_server.py [--seconds N] [--keep FOLDER] PROGRAM
 
 nginx, with the lines that tools/sweep.py prints for it, stands before a backend whose costs are known (so much for a
-file, for each KiB of it, for an error), first of one process and then of four. For --seconds (25 without it) clients
-that wait for nobody ask it, in bursts too, each on a connection of its own. tcpdump records the packets, nginx its log,
-both on 127.0.0.1. Then, for each backend and of both recordings:
+file, for each KiB of it, for an error), first of one process and then of four; and then of four that also answer a slow
+API of two kinds. For --seconds (25 without it) clients that wait for nobody ask it, in bursts too, each on a connection
+of its own. tcpdump records the packets, nginx its log, both on 127.0.0.1. Then, for each backend and of both
+recordings:
 
-  - tools/calibrate.py finds the number of processes, and costs that are those of the backend;
+  - tools/calibrate.py finds the number of processes, the routes of the API, and costs that are those of the backend;
+    and its check holds;
   - the replay under the settings of the limit turns as many away as nginx did, second by second;
-  - the percentiles of the replay are those that were measured, under the servers, the delay and the costs that
-    tools/calibrate.py wrote; and so are those that it predicted.
+  - the percentiles of the replay are those that were measured, of each route too, and so is the greatest time, under
+    the servers, the delays and the costs that tools/calibrate.py wrote.
 
 Prints what was measured and what was found, and then how many comparisons failed. Exits with 1 where one did. It needs
-root, nginx, tcpdump and the libraries of the tools, and takes about two minutes.
+root, nginx, tcpdump and the libraries of the tools, and takes about three minutes.
 """
 import argparse
 import asyncio
@@ -32,10 +34,12 @@ import subprocess
 import sys
 import tempfile
 import time
+import tomllib
 
 TOOLS = pathlib.Path(__file__).resolve().parent.parent / "tools"
 sys.dont_write_bytecode = True  # the folders stay as they are
 sys.path.insert(0, str(TOOLS))
+import response_delays
 import server_lines
 import settings_documents
 
@@ -44,14 +48,20 @@ NEEDED = ("nginx", "tcpdump", PYTHON)
 HOST = "127.0.0.1"
 FILE, KIB, ERROR = 0.010, 0.00012, 0.004  # seconds that the backend works on a file, a KiB of it, an error
 SIZES = {"small.txt": 2_000, "page.html": 20_000, "picture.png": 100_000}
+API = {"api/item": 0.025, "api/search": 0.060}  # seconds that it works on an answer
 LONGEST = 10  # seconds that a request, a start or an end may take
-COST_PERCENT, TIME_PERCENT, AWAY_PERCENT = 10, 10, 2
+COST_PERCENT, TIME_PERCENT, GREATEST_PERCENT, AWAY_PERCENT = 10, 10, 15, 2
+LEAST_ASKED = 100  # admitted requests of a route whose percentiles are compared
 SLACK = 600  # microseconds that nginx and the clients add to a time
 PRIORITY = 10  # in real time, of servers and clients, which mostly wait: other work on the machine doesn't slow them
 
-# A round: its name, the backend's processes, the requests a second and the size of a burst, and nginx's limit.
-Round = collections.namedtuple("Round", "name processes pace burst rate depth")
-ROUNDS = (Round("one process", 1, 35, 35, 60, 20), Round("four processes", 4, 140, 130, 240, 60))
+# A round: its name, the backend's processes, the requests a second and the size of a burst, nginx's limit, and by how
+# much of the requests each is asked for: the three sizes of files, nothing that is there, and what there is of the API.
+Round = collections.namedtuple("Round", "name processes pace burst rate depth asked")
+FILES_ALONE, MIXED = (50, 35, 5, 10, 0, 0), (25, 20, 5, 5, 27, 18)
+ROUNDS = (Round("one process", 1, 35, 35, 60, 20, FILES_ALONE),
+          Round("four processes", 4, 140, 130, 240, 60, FILES_ALONE),
+          Round("files and an API", 4, 80, 70, 140, 50, MIXED))
 
 LOG_FORMAT = (
     '$remote_addr - $remote_user [$time_local] "$request" $status $body_bytes_sent "$http_referer" "$http_user_agent" '
@@ -76,6 +86,8 @@ http {{
 
 def cost_of(name):
     """The status of a name, its bytes, and the seconds that the backend works on it."""
+    if name in API:
+        return 200, b"x" * 700, API[name]
     if name not in SIZES:
         return 404, b"none\n", ERROR
     return 200, b"x" * SIZES[name], FILE + KIB * SIZES[name] / 1024
@@ -204,7 +216,7 @@ def plan(a_round, seconds):
         times.append(now)
     for second in range(1, int(seconds), 2):
         times += [second + 0.05 * random_.random() for _ in range(a_round.burst)]
-    names = random_.choices((*SIZES, "none"), (50, 35, 5, 10), k=len(times))
+    names = random_.choices((*SIZES, "none", *API), a_round.asked, k=len(times))
     return [(when, "/%s?n=%d" % (name, number)) for number, (when, name) in enumerate(zip(sorted(times), names))]
 
 
@@ -284,15 +296,15 @@ def decisions_of_log(folder):
     return statuses, times
 
 
-def decisions_of_table(path):
+def decisions_of_table(path, settings):
     """The statuses and response times of requests by their numbers, by a table of decisions."""
-    statuses, times = {}, {}
+    statuses, times, delays = {}, {}, response_delays.Delays(settings)
     with open(path, newline="") as file:
         for row in csv.DictReader(file):
             number = int(row["target"].partition("?n=")[2])
             statuses[number] = int(row["status"])
             if row["decision"] == "admitted":
-                times[number] = int(row["finish"]) - int(row["tick"])
+                times[number] = int(row["finish"]) - int(row["tick"]) + delays.of(row["target"])
     return statuses, times
 
 
@@ -306,18 +318,20 @@ def calibrated(folder, name, port, comparisons, a_round):
     settings, page = folder / (name + ".toml"), folder / (name + ".html")
     source = folder / {"pcap": "site.pcap", "log": "access.log"}[name]
     words = ["--port", port] if name == "pcap" else []
-    text = run(PYTHON, TOOLS / "calibrate.py", *words, "--output", settings, "--page", page, source)
+    text = run(PYTHON, TOOLS / "calibrate.py", *words, "--anyway", "--output", settings, "--page", page, source)
     print("".join("  | %s\n" % line for line in text.splitlines()), end="")
-    found = re.search(
-        r"^best: (\d+) servers?, (?:no delay|delay (\d+)): file (\d+), kib (\d+), error (\d+)", text, re.M)
-    comparisons.true("by %s %d servers" % (name, a_round.processes), int(found[1]) == a_round.processes)
-    for part, figure, real in zip(("file", "kib", "error"), found.groups()[2:], (FILE, KIB, ERROR)):
-        comparisons.near("by %s costs.%s" % (name, part), int(figure) + (int(found[2] or 0) if part != "kib" else 0),
+    tables = tomllib.loads(settings.read_text())
+    costs, routes = tables["costs"], {route["prefix"][1:]: route for route in tables.get("route", [])}
+    comparisons.true("by %s %d servers" % (name, a_round.processes), costs.get("servers", 1) == a_round.processes)
+    comparisons.true("by %s the routes are those of the API" % name,
+                     set(routes) == {one for one, share in zip(API, a_round.asked[-len(API):]) if share})
+    comparisons.true("by %s the check holds" % name, "the check fails" not in text)
+    for part, real in (("file", FILE), ("kib", KIB), ("error", ERROR)):
+        comparisons.near("by %s costs.%s" % (name, part), costs.get(part, 0) + (part != "kib") * costs.get("delay", 0),
                          1e6 * real, COST_PERCENT, 2 if part == "kib" else SLACK)
-    missed = re.search(r"^best:.*\n.*misses of all times: p50 ([+-]\d+)%, p90 ([+-]\d+)%, p99 ([+-]\d+)%", text, re.M)
-    for percent, figure in zip((50, 90, 99), missed.groups()):
-        comparisons.near("by %s p%d of the best fit, in percent" %
-                         (name, percent), 100 + int(figure), 100, TIME_PERCENT)
+    for prefix, route in routes.items():
+        took = route["cost"] + route.get("delay", costs.get("delay", 0))
+        comparisons.near("by %s the route %s" % (name, prefix), took, 1e6 * API.get(prefix, 0), COST_PERCENT, SLACK)
     return settings
 
 
@@ -353,6 +367,7 @@ def compare_round(folder, program, a_round, port, comparisons, seconds):
     run(program, "snapshot", "--folder", site, "--output", folder / "site.snapshot")
     real, real_times = decisions_of_log(folder)
     planned = dict(enumerate(when for when, _ in plan(a_round, seconds)))
+    targets = dict(enumerate(target for _, target in plan(a_round, seconds)))
     run(PYTHON, TOOLS / "capture_from_pcap.py", "--port", port,
         "--output", folder / "pcap.capture", folder / "site.pcap")
     run(PYTHON, TOOLS / "capture_from_log.py", "--log-format", LOG_FORMAT, "--output", folder / "log.capture",
@@ -362,12 +377,25 @@ def compare_round(folder, program, a_round, port, comparisons, seconds):
         table = folder / (name + ".csv")
         run(program, "explain", "--snapshot", folder / "site.snapshot", "--capture", folder / (name + ".capture"),
             "--settings", settings, "--messages", table)
-        statuses, times = decisions_of_table(table)
+        statuses, times = decisions_of_table(table, tomllib.loads(settings.read_text()))
         compare_decisions(comparisons, name, real, statuses, planned)
-        answered = [time for number, time in real_times.items() if real[number] != 503]
-        for percent in (50, 90, 99):
-            comparisons.near("by %s replayed p%d" % (name, percent), percentile(times.values(), percent),
-                             percentile(answered, percent), TIME_PERCENT, SLACK)
+        compare_times(comparisons, name, {number: time for number, time in real_times.items()
+                                          if real[number] != 503}, times, targets)
+
+
+def compare_times(comparisons, name, real, found, targets):
+    """Compares response times: of files and what isn't there, of each part of the API, and of all."""
+    parts = {of: [number for number, target in targets.items() if target.startswith("/%s?" % of)] for of in API}
+    apart = set().union(*parts.values())
+    parts = {**parts, "the rest": set(targets) - apart, "all": targets} if apart else {"all": targets}
+    for of, numbers in parts.items():
+        measured, replayed = ([times[number] for number in numbers if number in times] for times in (real, found))
+        if len(measured) < LEAST_ASKED:
+            continue
+        for percent in (50, 90, 99, 100):
+            comparisons.near("by %s replayed %s of %s" % (name, "p%d" % percent if percent < 100 else "greatest", of),
+                             percentile(replayed, percent), percentile(measured, percent),
+                             TIME_PERCENT if percent < 100 else GREATEST_PERCENT, SLACK)
 
 
 def main():

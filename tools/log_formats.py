@@ -337,7 +337,7 @@ class CaddyFormat(JsonFormat):
 # The variables whose values are read; over others one reads.
 READ = {*TIMES, *DURATIONS, "request", "request_method", "request_uri", "server_protocol", "http_host", "host",
         "http_referer", "http_user_agent", "http_if_modified_since", "http_if_none_match", "remote_addr", "status",
-        "body_bytes_sent"}
+        "body_bytes_sent", "upstream_response_time", "upstream_connect_time"}
 
 
 def check_variables(names):

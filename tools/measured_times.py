@@ -1,14 +1,20 @@
-"""Reads how long a server took for each request: from recorded packets of both directions, or from an access log."""
+"""Reads how long a server took for each request: from recorded packets of both directions, or from access logs."""
+import array
 import collections
+import functools
+import itertools
 import re
 
 import capture_from_pcap
+import capture_writer
 import input_files
 import log_formats
+import log_requests
 import packet_files
 import request_text
 import tool_run
 from request_text import NO_HTTP, Body, GivenUp, Text, body_of
+from response_delays import segments_of
 from tool_run import Fault
 
 dpkt = packet_files.dpkt
@@ -18,21 +24,83 @@ NEEDED = ("status", "body_bytes_sent")
 PIECE = 1_048_576  # bytes of a log that are read at a time
 LINE_ROOM = 65_536  # bytes; a longer line doesn't fit
 SECOND = 1_000_000  # microseconds
+LONGEST = 2**62  # microseconds; times beyond are none
 DIGITS = 15  # of a number of bytes
 SEQUENCES = 2**32
 ANSWER_BEGIN = b"HTTP/1."
 STATUS = re.compile(rb"HTTP/1\.[01] ([0-9]{3})")
+FILES = (200, 206)  # statuses of answers that carry a file; 304 costs one, too
+NOT_MODIFIED = 304
+REFUSED = (503, 499)  # statuses of requests that were turned away, or for which nobody waited
+MOST = 1_000_000  # requests that are taken
+DEPTH = 3  # segments of a path that are kept, unless a route has more
+PATH_ROOM = 120  # bytes of a path that are kept of those
+BEYOND = "requests after the first %d; take a busy time by --from and --to" % MOST
+OUTSIDE = "requests before --from or after --to"
+TURNED_AWAY = "answered 503 or 499"
 SWITCHED = 101  # the status after which a connection has another protocol (RFC 9110, 15.2.2)
 LOST = "connections from a lost, cut or odd piece on"
 MIDDLE = "connections whose begin isn't there"
 UNANSWERED = "requests without a whole answer"
 UNFIT = "lines of another format"
 
-# When a request's last byte came and its answer's last byte went, in microseconds since 1970; and the answer.
-Measured = collections.namedtuple("Measured", "arrival answer method status size")
-# What was measured in a file, counts of what was left out, whether arrivals are finer than a second, and whether times
-# begin only when a worker takes a request.
-Recorded = collections.namedtuple("Recorded", "measured left_out is_exact is_begun", defaults=(True, False))
+# When a request's last byte came and its answer's last byte went, in microseconds since 1970; the answer; the target;
+# how long the server behind it took, where that is told apart; and the tier.
+Measured = collections.namedtuple("Measured", "arrival answer method status size target server tier",
+                                  defaults=(b"", None, 0))
+# What is asked of a reading: ports of packets, the format of a log, rules of tiers, the time that is taken, and the
+# segments of a path that are kept.
+Wanted = collections.namedtuple("Wanted", "ports log_format tiers begin end depth",
+                                defaults=((), "timed", (), 0, None, DEPTH))
+
+
+@functools.lru_cache(maxsize=4096)
+def path_of(target, depth):
+    """The first segments of a target's path, as text; None where it has no path."""
+    segments = segments_of(target)
+    if segments is None:
+        return None
+    room = itertools.accumulate(1 + len(segment) for segment in segments[:depth])
+    count = sum(size <= PATH_ROOM or depth > DEPTH for size in room)
+    return "".join("/" + segment.decode() for segment in segments[:count])
+
+
+class Recorded:
+    """What was recorded, in columns of numbers, with counts of what was left out."""
+
+    def __init__(self, wanted):
+        self.wanted = wanted
+        self.left_out = collections.Counter()
+        self.columns = {name: array.array(code) for name, code in (
+            ("arrival", "q"), ("answer", "q"), ("server", "q"), ("size", "q"), ("is_file", "b"), ("path", "i"),
+            ("tier", "b"))}
+        self.paths = {}  # the place of each path
+        self.is_exact = True  # whether arrivals are finer than a second
+        self.is_begun = False  # whether times begin only when a worker takes a request
+
+    def take(self, one):
+        """Takes a request, or leaves it out: one that was measured, or the reason why it wasn't."""
+        reason = one if isinstance(one, str) else self.reason_against(one)
+        if reason:
+            self.left_out[reason] += 1
+            return
+        path = path_of(one.target, self.wanted.depth)
+        size = one.size if one.status in FILES and one.method == "GET" else 0
+        server = -1 if one.server is None else max(0, min(one.server, one.answer - one.arrival))
+        values = (one.arrival, one.answer, server, size, one.status in (*FILES, NOT_MODIFIED),
+                  -1 if path is None else self.paths.setdefault(path, len(self.paths)), one.tier)
+        for column, value in zip(self.columns.values(), values):
+            column.append(value)
+
+    def reason_against(self, one):
+        """Why a request isn't taken; None where it is."""
+        if one.status in REFUSED:
+            return TURNED_AWAY
+        if one.arrival < self.wanted.begin or (self.wanted.end is not None and one.arrival >= self.wanted.end):
+            return OUTSIDE
+        if not -LONGEST < one.arrival < LONGEST or not 0 <= one.answer - one.arrival < LONGEST:
+            return UNFIT
+        return BEYOND if len(self.columns["arrival"]) >= MOST else None
 
 
 class Side(Text):
@@ -58,11 +126,12 @@ class Side(Text):
 class Exchange:
     """The requests of one connection and their answers."""
 
-    def __init__(self, first):
+    def __init__(self, first, client=None, tiers=()):
         self.client, self.server = Side(first), None
         self.request_body = self.answer_body = None
-        self.waiting = collections.deque()  # arrival and method of requests without an answer
+        self.waiting = collections.deque()  # arrival, method and target of requests without an answer
         self.status = None
+        self.address, self.tiers, self.tier = client, tiers, None
 
     def from_client(self, time):
         """Reads the requests that are whole."""
@@ -75,7 +144,10 @@ class Exchange:
             head = self.client.up_to(request_text.HEAD_END)
             if head is None:
                 return
-            self.waiting.append([time, head.split(b" ", 1)[0].decode("latin-1")])
+            method, target = (bytes(head).split(b" ", 2) + [b""])[:2]
+            if self.tier is None:
+                self.tier = capture_writer.tier_of(self.tiers, self.address, target)
+            self.waiting.append([time, method.decode("latin-1"), target])
             self.request_body = body_of(head, 0)
 
     def end_request(self, time):
@@ -95,8 +167,8 @@ class Exchange:
             ended = self.answer_body.take(self.server) or (is_end and self.answer_body.left is None)
             if not ended:
                 return
-            arrival, method = self.waiting.popleft()
-            yield Measured(arrival, time, method, self.status, self.answer_body.size)
+            arrival, method, target = self.waiting.popleft()
+            yield Measured(arrival, time, method, self.status, self.answer_body.size, target, None, self.tier)
             self.answer_body = None
 
     def begin_answer(self):
@@ -123,10 +195,10 @@ class Exchange:
 class Connections:
     """The connections to given ports."""
 
-    def __init__(self, ports):
-        self.ports = ports
+    def __init__(self, ports, left_out, tiers=()):
+        self.ports, self.tiers = ports, tiers
         self.open = {}
-        self.left_out = collections.Counter()
+        self.left_out = left_out
 
     def take(self, time, segment):
         """Takes a segment at a time; gives what was measured by it."""
@@ -138,7 +210,7 @@ class Connections:
     def take_request(self, time, key, segment):
         """Takes a client's segment."""
         if segment.flags & dpkt.tcp.TH_SYN:
-            self.open[key] = Exchange(segment.sequence + 1)
+            self.open[key] = Exchange(segment.sequence + 1, capture_writer.client_of(key[0][0]), self.tiers)
             return
         exchange = self.open.get(key)
         self.left_out[MIDDLE] += key not in self.open and bool(segment.data)
@@ -184,15 +256,15 @@ class Connections:
         self.left_out[UNANSWERED] += sum(len(exchange.waiting) for exchange in self.open.values() if exchange)
 
 
-def of_packets(one, ports):
-    """What was measured in an input of packets, and counts of what was left out."""
-    connections, measured = Connections(ports), []
-    for packet in packet_files.packets(one, capture_from_pcap.check_link, connections.left_out):
-        segment = capture_from_pcap.segment_of(packet, connections.left_out)
-        if segment is not None:
-            measured += connections.take(packet.time, segment)
+def of_packets(inputs, recorded):
+    """Reads inputs of packets, one after another."""
+    connections = Connections(frozenset(recorded.wanted.ports), recorded.left_out, recorded.wanted.tiers)
+    for one in inputs:
+        for packet in packet_files.packets(one, capture_from_pcap.check_link, recorded.left_out):
+            segment = capture_from_pcap.segment_of(packet, recorded.left_out)
+            for measured in connections.take(packet.time, segment) if segment is not None else ():
+                recorded.take(measured)
     connections.count_unanswered()
-    return measured, connections.left_out
 
 
 def lines_of(one):
@@ -227,14 +299,25 @@ def reader_of(log_format, first):
     return found
 
 
+def server_time(value):
+    """Microseconds of nginx's $upstream_response_time, or $upstream_connect_time, over all servers that were tried;
+    None where none was."""
+    parts = [log_formats.seconds(part) for part in re.split(rb" ?[,:] ", value) if part not in log_formats.ABSENT]
+    return sum(parts) if parts and None not in parts else None
+
+
 class LogReader:
     """Reads what was measured out of a log's lines."""
 
-    def __init__(self, log_format, first):
-        self.format = reader_of(log_format, first)
+    def __init__(self, wanted, first):
+        self.format = reader_of(wanted.log_format, first)
+        self.tiers = wanted.tiers
         names = self.format.names
+        if "remote_addr" not in names and any(rule.about == "client" for rule in self.tiers):
+            raise Fault("--tier: an address needs $remote_addr in the log's format", 2)
         self.time = first_of(names, log_formats.TIMES)
         self.duration = first_of(names, log_formats.DURATIONS)
+        self.request = next(known for known in log_formats.REQUEST_NAMES if known <= set(names))
         self.is_answer = log_formats.TIMES[self.time].answered
         self.is_exact = log_formats.TIMES[self.time].exact
         self.is_begun = self.duration in log_formats.APACHE_DURATIONS
@@ -254,8 +337,24 @@ class LogReader:
         arrival = time - duration if self.is_answer else time
         sent = values.get("body_bytes_sent", b"")
         size = int(sent) if sent.isdigit() and len(sent) <= DIGITS else 0
-        method = values.get("request_method") or values.get("request", b"").split(b" ", 1)[0]
-        return Measured(arrival, arrival + duration, method.decode("latin-1"), int(values["status"]), size)
+        method, target = self.asked(values)
+        client = log_requests.client_of(values.get("remote_addr") or b"") if self.tiers else None
+        return Measured(arrival, arrival + duration, method.decode("latin-1"), int(values["status"]), size, target,
+                        self.server(values), capture_writer.tier_of(self.tiers, client, target))
+
+    def asked(self, values):
+        """The method and the target of a line's request; without a sound one nothing stands for either."""
+        parts = (values["request"].split(b" ") if "request" in values else
+                 [values.get("request_method") or b"", values.get("request_uri") or b""])
+        method, target = (parts + [b""])[:2]
+        return method, log_requests.unescape(target) if self.format.escaped and b"\\" in target else target
+
+    def server(self, values):
+        """How long the server behind it took for a line's answer, without the time to connect; None where the log
+        doesn't tell it."""
+        took = server_time(values.get("upstream_response_time") or b"")
+        connected = server_time(values.get("upstream_connect_time") or b"")
+        return took if took is None or connected is None else max(0, took - connected)
 
 
 def nothing_fits(one, form):
@@ -267,32 +366,38 @@ def nothing_fits(one, form):
         form.name, form.fits_to(line))
 
 
-def of_log(one, log_format):
-    """What was recorded in a log."""
-    reader, measured, left_out = LogReader(log_format, one.first), [], collections.Counter()
-    for line in lines_of(one):
-        found = reader.measured(line)
-        if isinstance(found, str):
-            left_out[found] += 1
-        else:
-            measured.append(found)
-    if not measured:
-        raise Fault(nothing_fits(one, reader.format))
-    durations = [found.answer - found.arrival for found in measured]
-    if all(duration % SECOND == 0 for duration in durations):
+def first_time(one, reader):
+    """The time of an input's first line that fits."""
+    lines = map(reader.measured, one.first.split(b"\n"))
+    return next((found.answer for found in lines if not isinstance(found, str)), LONGEST)
+
+
+def of_logs(inputs, recorded):
+    """Reads logs, by the times of their first lines."""
+    reader = LogReader(recorded.wanted, inputs[0].first)
+    recorded.is_exact, recorded.is_begun = reader.is_exact, reader.is_begun
+    for one in sorted(inputs, key=lambda one: first_time(one, reader)):
+        for line in lines_of(one):
+            recorded.take(reader.measured(line))
+    taken = recorded.columns
+    if not taken["arrival"] and not set(recorded.left_out) - {UNFIT}:
+        raise Fault(nothing_fits(inputs[0], reader.format))
+    if taken["arrival"] and all((end - begin) % SECOND == 0 for begin, end in zip(taken["arrival"], taken["answer"])):
         raise Fault("the durations are whole seconds; they have to be milliseconds or better")
-    return Recorded(measured, left_out, reader.is_exact, reader.is_begun)
 
 
-def of_file(path, ports, log_format):
-    """What was recorded in a file, which is told by its first bytes: packets or a log."""
-    size = input_files.size_of([path])
-    with tool_run.progress(TOOL, size, "B") as bar, input_files.opened([path], bar.update) as (one,):
-        try:
-            if one.first.startswith(input_files.PACKETS):
-                if not ports:
+def of_files(paths, wanted):
+    """What was recorded in files, which are told by their first bytes: packets, or logs of one format."""
+    recorded = Recorded(wanted)
+    with tool_run.progress(TOOL, input_files.size_of(paths), "B") as bar:
+        with input_files.opened(paths, bar.update) as inputs:
+            try:
+                kinds = {one.first.startswith(input_files.PACKETS) for one in inputs}
+                if len(kinds) > 1:
+                    raise Fault("packets and logs together")
+                if True in kinds and not wanted.ports:
                     raise Fault("these are packets: --port says which is the server's", 2)
-                return Recorded(*of_packets(one, frozenset(ports)))
-            return of_log(one, log_format)
-        except Fault as fault:
-            raise Fault("%s: %s" % (path, fault), fault.status) from None
+                (of_packets if True in kinds else of_logs)(inputs, recorded)
+            except Fault as fault:
+                raise Fault("%s: %s" % (", ".join(paths), fault), fault.status) from None
+    return recorded

@@ -18,6 +18,7 @@ OF_ROUTE = ("cost", "kib", "delay")  # the keys of a route that are integers
 SERVERS = "costs.servers"  # the key that says how many work side by side
 COSTS = ("file", "kib", "error")  # the keys of the table of costs that are a server's work
 NAME = re.compile(r"[A-Za-z0-9_-]+")
+MARGIN = re.compile(rb"^# margin ([1-9][0-9]?) percent of all costs$", re.MULTILINE)
 # The least and the greatest value of the keys for which a tool finds values (docs/FORMATS.md, Settings).
 RANGES = {
     "costs.file": (1, 1_000_000), "costs.kib": (0, 1_000_000), "costs.error": (1, 1_000_000),
@@ -72,6 +73,18 @@ def read(path):
 def value_text(value):
     """A value as TOML writes it; a text between quotes."""
     return json.dumps(value, ensure_ascii=False).replace("\x7f", "\\u007f") if type(value) is str else str(value)
+
+
+def margin_line(percent):
+    """The line by which a document says how wrong all its costs may be."""
+    return "# margin %d percent of all costs\n" % percent
+
+
+def margin_of(path):
+    """The percent of such a line of a document; None without one."""
+    with open(path, "rb") as file:
+        found = MARGIN.search(file.read(SIZE_LIMIT))
+    return found and int(found[1])
 
 
 def route_key(key):

@@ -77,7 +77,8 @@ tier1.p99 is that of tier 1. N is in microseconds for times, in percent for turn
 
 --margin PERCENT chooses a combination that is within --at-most also where all costs, those of routes
 too, are so many percent lower, and higher: three runs in the place of one. The page shows each figure
-at both ends. Above 90 percent of what the server bears a warning says so.
+at both ends. --margin calibrated takes the percent that tools/calibrate.py wrote into --settings.
+Above 90 percent of what the server bears a warning says so.
 
 --search N tries N combinations in the place of all: --set then gives ranges, and an optimiser (SciPy's
 differential evolution) looks for the one to choose.
@@ -110,6 +111,7 @@ INTEGER = re.compile(r"(-?[0-9]{1,15})(/s)?")
 LIMIT = re.compile(r"(?:(tier[0-3])[.])?([a-z0-9_]+)=([0-9]{1,15}(?:[.][0-9]{1,6})?)")
 LEAST_SEARCH, MOST_COMBINATIONS = 10, 100_000  # runs
 GREATEST_MARGIN = 90  # percent
+CALIBRATED = "calibrated"
 NO_CAPTURE = "haboob: capture: record 0: Header"  # what the program says of a file that is no capture
 
 # A key of --set, its values in their order, and whether they are the ends of a range.
@@ -159,9 +161,12 @@ def address(text):
 
 
 def margin(text):
-    """So many percent of the command line."""
+    """So many percent of the command line, or the word for those that the settings tell."""
+    if text == CALIBRATED:
+        return text
     if not re.fullmatch(r"[1-9][0-9]?", text) or int(text) > GREATEST_MARGIN:
-        raise argparse.ArgumentTypeError("%r is no whole number of percent from 1 to %d" % (text, GREATEST_MARGIN))
+        raise argparse.ArgumentTypeError("%r is no whole number of percent from 1 to %d, nor %s" % (
+            text, GREATEST_MARGIN, CALIBRATED))
     return int(text)
 
 
@@ -184,7 +189,7 @@ def arguments(words):
     parser.add_argument("--at-most", type=limit, action="append", default=[], dest="limits", metavar="FIGURE=N",
                         help="choose the combination that turns fewest away within it; may be given several times")
     parser.add_argument("--margin", type=margin, metavar="PERCENT", help="choose what is within --at-most also where "
-                        "all costs are so many percent lower, and higher")
+                        "all costs are so many percent lower, and higher; calibrated: as many as --settings tells")
     parser.add_argument("--search", type=count, metavar="N", help="try N combinations, chosen by an optimiser, of "
                         "the ranges that --set gives as TABLE.KEY=LEAST..GREATEST")
     parser.add_argument("--output", required=True, metavar="FOLDER", help="where the results go; is made if need be")
@@ -562,8 +567,19 @@ def warnings_of(options, combinations):
     return ["%s: %s" % one for one in told if one[1]]
 
 
+def margin_of(options):
+    """The margin in percent, which the settings tell where the word for that is given; None without one."""
+    if options.margin != CALIBRATED:
+        return options.margin
+    found = settings_documents.margin_of(options.settings) if options.settings else None
+    if found is None:
+        raise Fault("--margin %s: no settings that tools/calibrate.py wrote are given by --settings" % CALIBRATED, 2)
+    return found
+
+
 def sweep(options):
     """Does what the command line says."""
+    options.margin = margin_of(options)
     for name in ("tqdm", "scipy.optimize", "scipy.stats") if options.search else ("tqdm",):
         tool_run.library(name)  # before anything is made
     folder = pathlib.Path(options.output)

@@ -7,6 +7,7 @@ MUTATIONS=N in the environment tries N damaged inputs.
 """
 import collections
 import contextlib
+import csv
 import datetime
 import gzip
 import heapq
@@ -29,9 +30,12 @@ sys.path.insert(0, str(TOOLS))
 import calibrate
 import cost_fit
 import dpkt
+import input_files
 import measured_times
 import numpy
 import request_text
+import response_delays
+import route_search
 import settings_documents
 import tool_run
 
@@ -43,23 +47,31 @@ COUNT = 2_400
 PIECE = 30_000  # bytes of a packet
 SEGMENT = 1_448  # bytes of a packet as Ethernet mostly has it
 MIB = 1_048_576
-ANSWERS = {"head": ("HEAD", 200), "same": ("GET", 304), "missing": ("GET", 404)}  # of others a GET's 200
 PROGRAM = TOOLS.parent / "crates" / "haboob" / "out" / "haboob"
 FORMATS = TOOLS.parent / "docs" / "FORMATS.md"
 
-Answer = collections.namedtuple("Answer", "arrival end method status size")
+# An answer: when its request came, when the server was done with it, and when it was there.
+Answer = collections.namedtuple("Answer", "arrival done end method status size target")
+# A kind of requests: of so many of all, what they ask for, what comes of them, and what that takes: microseconds,
+# those of each KiB, and those beside the server; and the typical size.
+Kind = collections.namedtuple("Kind", "weight prefix method status cost kib delay size")
+MIXED = (Kind(70, "/static/", "GET", 200, 1_500, 20, 0, 8_000),
+         Kind(20, "/api/item/", "GET", 200, 12_000, 0, 3_000, 900),
+         Kind(10, "/api/search/", "GET", 200, 45_000, 30, 8_000, 40_000), Kind(2, "/gone/", "GET", 404, 400, 0, 0, 0))
 
 
-def simulated(seed, servers, costs, delay, gap, count=COUNT, burst=40):
-    """Answers of a server whose costs are known, in microseconds: clients come one by one, a `gap` apart on average,
-    and now and then in bursts; a queue, and servers that take its first when they are free."""
+def served(seed, servers, kinds, gap, count, burst=30, spread=0.0, apart=0):
+    """Answers of a server whose costs are known: clients come one by one, a `gap` apart on average, and now and then in
+    bursts, so much `apart`; a queue, and servers that take its first when they are free. With a spread each takes so
+    much more or less time (the deviation of its logarithm)."""
     random_ = random.Random(seed)
     now, coming = 0.0, []
     while len(coming) < count:
         now += random_.expovariate(1 / gap)
         for _ in range(random_.randint(5, burst) if random_.random() < 0.02 else 1):
-            kind = random_.choices(("file", "head", "same", "missing"), (85, 3, 4, 8))[0]
-            coming.append((now, kind, int(random_.lognormvariate(9, 1.1))))
+            kind = random_.choices(kinds, [one.weight for one in kinds])[0]
+            now += apart
+            coming.append((now, kind, int(kind.size * random_.lognormvariate(0, 1.1)), random_.randrange(900)))
     queue, free, events, answers = collections.deque(), servers, [], []
     for place, (arrival, *_) in enumerate(coming):
         heapq.heappush(events, (arrival, 1, place))
@@ -72,12 +84,20 @@ def simulated(seed, servers, costs, delay, gap, count=COUNT, burst=40):
         while free and queue:
             free -= 1
             place = queue.popleft()
-            arrival, kind, size = coming[place]
-            service = {"file": costs[0] + costs[1] * size / 1024, "missing": costs[2]}.get(kind, costs[0])
-            heapq.heappush(events, (time + service, 0, place))
-            method, status = ANSWERS.get(kind, ("GET", 200))
-            answers.append(Answer(arrival, time + service + delay, method, status, size if kind == "file" else 0))
+            arrival, kind, size, number = coming[place]
+            done = time + (kind.cost + kind.kib * size / 1024) * (random_.lognormvariate(0, spread) if spread else 1)
+            heapq.heappush(events, (done, 0, place))
+            answers.append(Answer(arrival, done, done + kind.delay, kind.method, kind.status, size,
+                                  kind.prefix + str(number)))
     return answers
+
+
+def simulated(seed, servers, costs, delay, gap, count=COUNT, burst=40):
+    """The same of a server with costs for a file, for each KiB of it and for any other answer, on one path."""
+    kinds = [Kind(weight, "/", method, status, cost, kib, delay, size) for weight, method, status, cost, kib, size in (
+        (85, "GET", 200, costs[0], costs[1], 8_103), (3, "HEAD", 200, costs[0], 0, 0),
+        (4, "GET", 304, costs[0], 0, 0), (8, "GET", 404, costs[2], 0, 0))]
+    return [one._replace(target="/a") for one in served(seed, servers, kinds, gap, count, burst)]
 
 
 def seconds(ticks):
@@ -87,10 +107,25 @@ def seconds(ticks):
 
 def log_of(answers):
     """The log of answers, in the order in which they were sent."""
-    lines = ['127.0.0.1 - - [14/Nov/2023:22:13:20 +0000] "%s /a HTTP/1.1" %d %d "-" "-" %s %s www "-" "-"\n' % (
-        one.method, one.status, one.size, seconds(START * SECOND + round(one.end)),
+    lines = ['127.0.0.1 - - [14/Nov/2023:22:13:20 +0000] "%s %s HTTP/1.1" %d %d "-" "-" %s %s www "-" "-"\n' % (
+        one.method, one.target, one.status, one.size, seconds(START * SECOND + round(one.end)),
         seconds(round(one.end) - round(one.arrival))) for one in sorted(answers, key=lambda one: one.end)]
     return "".join(lines).encode()
+
+
+def log_of_servers_behind(answers):
+    """The log of nginx, in milliseconds, that asks servers behind it for /api/, and tells how long those took."""
+    lines = []
+    for one in sorted(answers, key=lambda one: one.end):
+        end, done, arrival = (START * 1000 + int(time / 1000) for time in (one.end, one.done, one.arrival))
+        behind = ["0.001, %.3f" % ((done - arrival) / 1000), "0.001, 0.000"] if "/api/" in one.target else ["-", "-"]
+        lines.append('10.0.0.1 "%s %s HTTP/1.1" %d %d %.3f %.3f "%s" "%s"\n' % (
+            one.method, one.target, one.status, one.size, end / 1000, (end - arrival) / 1000, *behind))
+    return "".join(lines).encode()
+
+
+BEHIND = ('$remote_addr "$request" $status $body_bytes_sent $msec $request_time "$upstream_response_time" '
+          '"$upstream_connect_time"')
 
 
 def packet(time, from_client, port, sequence, flags, data=b""):
@@ -107,7 +142,8 @@ def packets_of(answers):
     """The packets of answers, a connection for each: the request and the answer come in two packets each."""
     packets = []
     for place, one in enumerate(answers):
-        port, request = 10_000 + place, b"%s /a HTTP/1.1\r\nHost: a\r\n\r\n" % one.method.encode()
+        port, request = 10_000 + place, b"%s %s HTTP/1.1\r\nHost: a\r\n\r\n" % (
+            one.method.encode(), one.target.encode())
         answer = b"HTTP/1.1 %d X\r\nContent-Length: %d\r\n\r\n%s" % (one.status, one.size, b"x" * one.size)
         packets += [packet(one.arrival - 200, True, port, 6, dpkt.tcp.TH_SYN),
                     packet(one.arrival - 150, False, port, 2**32 - 1, dpkt.tcp.TH_SYN | dpkt.tcp.TH_ACK),
@@ -187,24 +223,20 @@ class Base(unittest.TestCase):
         if PROGRAM.exists():
             ran = subprocess.run([PROGRAM, "settings", "--settings", self.output], capture_output=True, timeout=60)
             self.assertEqual((ran.returncode, ran.stderr), (0, b""))
-            self.assertLessEqual(values.items(), values_of(ran.stdout.decode()).items())
+            known = tomllib.loads(ran.stdout.decode())
+            written = tomllib.loads(self.output.read_text())
+            for one, other in zip([written.get("costs", {}), *written.get("route", [])],
+                                  [known["costs"], *known.get("route", [])], strict=True):
+                self.assertLessEqual(one.items(), other.items())
         return output, {key.partition(".")[2]: value for key, value in values.items()}
-
-    def best(self, output):
-        """The best fit by what was printed: servers, delay, costs."""
-        found = re.search(
-            r"^best: (\d+) servers?, (?:no delay|delay (\d+)): file (\d+), kib (\d+), error (\d+)", output,
-            re.MULTILINE)
-        return int(found[1]), int(found[2] or 0), [int(found[place]) for place in (3, 4, 5)]
 
     def check_near(self, found, real, percent):
         for one, other in zip(found, real):
             self.assertLessEqual(abs(one - other), percent / 100 * other, (found, real))
 
-    def held_out(self, output):
-        """What the best fit misses of the last third, in percent."""
-        line = output.splitlines()[[line.startswith("best:") for line in output.splitlines()].index(True) + 2]
-        self.assertIn("misses of the last", line)
+    def missed(self, output, of="all"):
+        """By how many percent the replayed percentiles of the second half are off, by the row of the check."""
+        line = next(line for line in output.splitlines() if re.match("  %s +[0-9]+ +[0-9.]+/" % re.escape(of), line))
         return [int(number) for number in re.findall(r"([+-]\d+)%", line)]
 
 
@@ -213,42 +245,35 @@ class Fits(Base):
 
     def test_one_server(self):
         output, costs = self.calibrated(log_of(simulated(1, 1, (3000, 40, 800), 0, 8_000)), "--page", str(self.page))
-        servers, delay, found = self.best(output)
-        self.assertEqual((servers, delay), (1, 0))
-        self.check_near(found, (3000, 40, 800), 3)
-        self.assertEqual(found, [costs["file"], costs["kib"], costs["error"]])
-        self.assertLessEqual(max(map(abs, self.held_out(output))), 5)
+        self.assertIn("best: 1 server (", output)
+        self.assertEqual(list(costs), ["file", "kib", "error"])
+        self.check_near(costs.values(), (3000, 40, 800), 1)
+        self.assertLessEqual(max(map(abs, self.missed(output))), 2)
         self.assertNotIn("WARNING", output)
         page = self.page.read_text()
-        self.assertEqual(page.count("<svg"), 3)
+        self.assertEqual((page.count("<svg"), page.count("<table>")), (3, 2))
         self.assertNotIn("src=", page)
-        for text in ("measured", "held out", "the settings have one server and no delay",
+        for text in ("measured", "replayed", "best: 1 server",
                      "Response times by percentile", "90th percentile over time", "by size"):
             self.assertIn(text, page)
 
     def test_four_servers(self):
         output, costs = self.calibrated(log_of(simulated(2, 4, (8000, 60, 900), 0, 4_000)), "--page", str(self.page))
-        servers, delay, found = self.best(output)
-        self.assertEqual((servers, delay), (4, 0))
-        self.check_near(found, (8000, 60, 900), 5)
-        self.assertLessEqual(max(map(abs, self.held_out(output)[:3])), 5)
-        self.assertEqual(costs, {"file": found[0], "kib": found[1], "error": found[2], "servers": 4})
-        self.assertIn("the settings have 4 servers and no delay: with one server and no delay", output)
-        # One server that gives as many a second costs a quarter.
-        single = re.search(r"^one server: 1 server, no delay: file (\d+), kib (\d+)", output, re.MULTILINE)
-        self.check_near([int(single[1]) + 12 * int(single[2])], [(8000 + 12 * 60) / 4], 15)
-        page = self.page.read_text()
-        self.assertIn("the settings have 4 servers", page)
-        self.assertIn("<td>best fit</td>", page)
-        self.assertIn("<td>one server</td>", page)
+        self.assertEqual(costs["servers"], 4)
+        self.assertNotIn("delay", costs)
+        self.check_near([costs[key] for key in ("file", "kib", "error")], (8000, 60, 900), 2)
+        self.assertLessEqual(max(map(abs, self.missed(output))), 2)
+        self.assertIn("best: 4 servers", self.page.read_text())
+
+    def test_three_servers(self):
+        """Between the numbers that are tried first."""
+        _, costs = self.calibrated(log_of(simulated(13, 3, (8000, 60, 900), 0, 5_000)))
+        self.check_near([costs[key] for key in ("servers", "file", "kib", "error")], (3, 8000, 60, 900), 2)
 
     def test_delay(self):
         output, costs = self.calibrated(log_of(simulated(3, 1, (900, 30, 300), 5_000, 2_500)))
-        servers, delay, found = self.best(output)
-        self.assertEqual(servers, 1)
-        self.check_near([delay, *found], (5_000, 900, 30, 300), 5)
-        self.assertEqual(costs, {"file": found[0], "kib": found[1], "error": found[2], "delay": delay})
-        self.assertIn("the settings have 1 server and a delay of %d microseconds" % delay, output)
+        self.assertIn("best: 1 server (", output)
+        self.check_near([costs[key] for key in ("delay", "file", "kib", "error")], (5_000, 900, 30, 300), 5)
 
     def test_packets(self):
         answers = simulated(4, 1, (3000, 40, 800), 0, 8_000, 600)
@@ -295,7 +320,7 @@ class Fits(Base):
         lines[-1] = lines[-1].replace('"duration"', '"took"')
         output, costs = self.calibrated("".join(lines).encode(), "--log-format", "caddy")
         self.check_near(costs.values(), (3000, 40, 800), 3)
-        self.assertIn("399 requests in", output)
+        self.assertIn("%d requests in" % (len(lines) - 1), output)
         self.assertIn("left out: 1 lines without duration", output)
 
     def test_apache_in_whole_seconds(self):
@@ -310,15 +335,15 @@ class Fits(Base):
         output, found = self.calibrated(
             "".join(lines).encode(), "--log-format", "combined_us", "--page", str(self.page))
         self.assertEqual(found, {"file": 3000, "kib": 40, "error": 800})
-        self.assertIn("best: nobody waits, no delay: file 3000, kib 40, error 800 microseconds", output)
+        self.assertIn("best: nobody waits (", output)
         self.assertIn("NOTE: Apache's times begin when a worker takes a request", output)
         self.assertIn("WARNING: the log has whole seconds", output)
-        self.assertIn("best fit", self.page.read_text())
+        self.assertIn("best: nobody waits", self.page.read_text())
 
     def test_turned_away(self):
         """Answers 503 and 499, which cost the server next to nothing, don't count."""
         answers = simulated(5, 1, (3000, 40, 800), 0, 8_000)
-        away = [Answer(one.arrival, one.arrival + 30, "GET", status, 20)
+        away = [Answer(one.arrival, one.arrival + 30, one.arrival + 30, "GET", status, 20, "/a")
                 for one in answers[::3] for status in (503, 499)]
         output, costs = self.calibrated(log_of(answers + away))
         self.assertIn("left out: %d answered 503 or 499" % len(away), output)
@@ -327,6 +352,192 @@ class Fits(Base):
     def test_deterministic(self):
         data = log_of(simulated(1, 1, (3000, 40, 800), 0, 8_000, 400))
         self.assertEqual(self.calibrated(data)[0], self.calibrated(data)[0])
+
+
+class Routes(Base):
+    """Files beside a slow API: the prefixes are found, and what the simulated server takes for each."""
+
+    def routes(self):
+        """The routes that were written, without their prefixes, by these."""
+        routes = tomllib.loads(self.output.read_text())["route"]
+        return {route.pop("prefix"): route for route in routes}
+
+    def check_mixed(self, percent):
+        """Compares what was written with MIXED on four servers."""
+        costs = tomllib.loads(self.output.read_text())["costs"]
+        self.assertEqual(costs["servers"], 4)
+        self.check_near([costs["file"], costs["kib"]], (1_500, 20), percent)
+        routes = self.routes()
+        self.assertEqual(list(routes), ["/api/item", "/api/search"])
+        self.check_near([routes["/api/item"][key] for key in ("cost", "delay")], (12_000, 3_000), percent)
+        self.check_near([routes["/api/search"][key] for key in ("cost", "kib", "delay")], (45_000, 30, 8_000), percent)
+
+    def test_found(self):
+        output, _ = self.calibrated(log_of(served(1, 4, MIXED, 4_000, 6_000)), "--page", str(self.page))
+        self.check_mixed(2)
+        self.assertRegex(output, r"[0-9]+ requests on /gone, fewer than 200 each, are of the rest\n")
+        for name in ("the rest", "/api/item", "/api/search", "all"):
+            self.assertLessEqual(max(map(abs, self.missed(output, name))), 2)
+            self.assertIn("<td>%s</td>" % name, self.page.read_text())
+        text = self.output.read_text()
+        self.assertRegex(text, r"\n# margin [1-3] percent of all costs\n")
+        self.assertRegex(text, r"\nprefix = \"/api/search\"\ncost = [0-9]+  # \+-[0-9.]+%\nkib = ")
+
+    def test_milliseconds(self):
+        """A log of steps of a millisecond tells as much of all but the shortest."""
+        rounded = [one._replace(end=one.end // 1000 * 1000, arrival=one.arrival // 1000 * 1000)
+                   for one in served(2, 4, MIXED, 4_000, 6_000)]
+        self.calibrated(log_of(rounded))
+        self.check_mixed(10)
+
+    def test_margins(self):
+        """Of work that varies by a sixth the prediction holds, and the margins are wider."""
+        output, _ = self.calibrated(log_of(served(3, 4, MIXED, 4_500, 9_000, spread=0.16)))
+        self.assertIn("best: 4 servers (", output)
+        for name in ("the rest", "/api/item", "/api/search"):
+            self.assertLessEqual(max(map(abs, self.missed(output, name)[:3])), 20)
+        margins = [float(found) for found in re.findall(r"\+-([0-9.]+)%", self.output.read_text())]
+        self.assertGreater(max(margins), 3)
+
+    def test_named(self):
+        """Routes of the command line, also of more segments than are found; those with too few requests are told."""
+        answers = [one._replace(target=one.target.replace("/api/item", "/v/1/api//item/./%69d"))
+                   for one in served(1, 4, MIXED, 4_000, 6_000)]
+        routes = ["--route=" + prefix for prefix in ("/v/1/api/item/id", "/api/", "/gone")]
+        output, _ = self.calibrated(log_of(answers), *routes)
+        self.assertEqual(list(self.routes()), ["/v/1/api/item/id", "/api"])
+        self.assertEqual(self.routes()["/v/1/api/item/id"]["cost"] // 1_000, 12)
+        self.assertRegex(output, "/gone: 1[0-9]+ requests, fewer than 200: they are of the rest\n")
+
+    def test_one_for_several(self):
+        """A prefix stands for those below it that are alike; before it stands one that isn't."""
+        kinds = [*MIXED[:1], *(Kind(8, "/api/%s/" % name, "POST", 200, cost, 0, 0, 100) for name, cost in (
+            ("a", 20_000), ("b", 20_500), ("c", 19_800), ("d", 70_000)))]
+        self.calibrated(log_of(served(4, 6, kinds, 4_000, 6_000)))
+        self.assertEqual(list(self.routes()), ["/api/d", "/api"])
+        self.check_near([route["cost"] for route in self.routes().values()], (70_000, 20_100), 3)
+
+    def test_tiers(self):
+        log = log_of(served(1, 4, MIXED, 4_000, 3_000))
+        output, _ = self.calibrated(log, "--tier", "/api/=2", "--tier", "127.0.0.1=1")
+        self.assertEqual([line.split()[1] for line in output.splitlines() if line.startswith("  tier ")], ["1", "2"])
+        packets = pcap_of(packets_of(served(1, 4, MIXED, 4_000, 1_500)))
+        output, _ = self.calibrated(packets, "--port", "80", "--tier", "/api/=2", "--route", "/api", "--anyway")
+        self.assertEqual([line.split()[1] for line in output.splitlines() if line.startswith("  tier ")], ["0", "2"])
+
+    def test_several_logs(self):
+        """In any order they are as one."""
+        text = log_of(served(1, 4, MIXED, 4_000, 3_000))
+        output, _ = self.calibrated(text)
+        whole, place = self.output.read_text(), text.index(b"\n", len(text) // 2) + 1
+        first = self.folder / "first.gz"
+        first.write_bytes(gzip.compress(text[:place]))
+        self.assertEqual(self.run_on(text[place:], str(first))[:2], (0, output))
+        self.assertEqual(self.output.read_text(), whole)
+        packets = pcap_of(packets_of(served(1, 4, MIXED, 4_000, 10)))
+        status, _, errors = self.run_on(packets, str(first))
+        self.assertEqual((status, errors), (1, "calibrate: first.gz, input: packets and logs together\n"))
+
+    def test_servers_behind(self):
+        """nginx answers files itself, while requests to the API wait for the four servers behind it: their costs are
+        found, and what nginx adds; the check says what one pool of servers for all makes of the files."""
+        files = served(5, 64, [Kind(1, "/static/", "GET", 200, 100, 3, 0, 8_000)], 4_500, 3_000, burst=6)
+        api = served(6, 4, [one._replace(kib=0, delay=2_000) for one in MIXED[1:3]], 9_000, 1_600)
+        log = log_of_servers_behind(files + api)
+        status, _, errors = self.run_on(log, "--log-format", BEHIND)
+        self.assertEqual((status, self.output.exists()), (1, False))
+        self.assertRegex(errors, "the check fails, and nothing is written: the rest p[0-9]+ .*; take a time in which ")
+        for form, data in ((BEHIND, log), (BEHIND.partition(' "$up')[0], re.sub(rb' "[^"/]+" "[^"/]+"\n', b"\n", log))):
+            output, _ = self.calibrated(data, "--log-format", form, "--anyway")
+            costs = tomllib.loads(self.output.read_text())["costs"]
+            self.assertEqual(costs["servers"], 4)
+            self.assertRegex(output, "NOTE: 6[0-9]% of the answers needed none of the servers that the others ")
+            routes = self.routes().values()
+            took = [route["cost"] + route.get("delay", costs.get("delay", 0)) for route in routes]
+            self.check_near(took, (14_000, 47_000), 3)
+            for name in ("/api/item", "/api/search"):
+                self.assertLessEqual(max(map(abs, self.missed(output, name))), 10)
+
+    def test_part_of_the_time(self):
+        """--from and --to, and what is past the most that is taken."""
+        answers = simulated(1, 1, (3000, 40, 800), 0, 8_000, 1_200)
+        begin, end = (START + int(answers[place].arrival / SECOND) for place in (100, 900))
+        output, _ = self.calibrated(log_of(answers), "--from", str(begin), "--to", str(end))
+        came = [begin <= START + one.arrival / SECOND < end for one in answers]
+        self.assertRegex(output, r"^%d requests in .*left out: %d requests before --from or after --to" % (
+            sum(came), len(came) - sum(came)))
+        with unittest.mock.patch.object(measured_times, "MOST", 700):
+            self.assertRegex(self.calibrated(log_of(answers))[0], "^700 requests in .*left out: 5[0-9]+ requests after")
+
+    def test_absent_fields(self):
+        """How many lines lack which field."""
+        lines = log_of(simulated(1, 1, (3000, 40, 800), 0, 8_000, 600)).splitlines(True)
+        for place, (old, new) in enumerate([(rb'" [0-9]{3} ', b'" - ')] * 3 + [(rb" [0-9.]+ www", b" - www")] * 2):
+            lines[place] = re.sub(old, new, lines[place])
+        output, _ = self.calibrated(b"".join(lines))
+        self.assertIn("left out: 3 lines without $status, 2 lines without $request_time\n", output)
+
+    def test_without_kib(self):
+        """With it the answers of the API cost in the middle what they do with the kib of their sizes."""
+        log = log_of(served(1, 4, [one._replace(kib=80) for one in MIXED], 5_000, 4_000))
+        self.assertIn("NOTE: /api/search: kib is ", self.calibrated(log)[0])
+        self.calibrated(log, "--without-kib", "--anyway")
+        self.assertEqual(set(self.routes()["/api/search"]), {"cost", "delay"})
+        self.assertGreater(self.routes()["/api/search"]["cost"], 45_000)
+
+    def test_replayed(self):
+        """The program itself, with what was written, answers as the server did, by each route."""
+        if not PROGRAM.exists():
+            self.skipTest("the program isn't built")
+        answers = served(7, 4, [one._replace(kib=0) for one in MIXED], 4_000, 3_000, apart=30)
+        self.calibrated(log_of(answers))
+        capture, table, snapshot = (self.folder / name for name in ("capture", "table.csv", "snapshot"))
+        subprocess.run([sys.executable, TOOLS / "capture_from_log.py", "--output", capture, self.input], check=True,
+                       capture_output=True)
+        targets = sorted({one.target[1:] for one in answers if one.status == 200})
+        snapshot.write_text("haboob-snapshot 1\n%send %d\n" % (
+            "".join("file 0 %d 1\n%s\na\n" % (len(name), name) for name in targets), len(targets)), newline="")
+        settings = self.output.read_text() + "[policy]\nrate = 1000000000\nrate_max = 1000000000\ndepth = 1000000\n"
+        self.output.write_text(settings)
+        subprocess.run([PROGRAM, "explain", "--snapshot", snapshot, "--capture", capture, "--settings", self.output,
+                        "--messages", table], check=True, capture_output=True, timeout=60)
+        delays = response_delays.Delays(tomllib.loads(settings))
+        with open(table, newline="") as file:
+            rows = [(row["target"], int(row["finish"]) - int(row["tick"]) + delays.of(row["target"]))
+                    for row in csv.DictReader(file)]
+        for prefix in ("/static/", "/api/item/", "/api/search/"):
+            measured = [one.end - one.arrival for one in answers if one.target.startswith(prefix)]
+            replayed = [time for target, time in rows if target.startswith(prefix)]
+            self.assertEqual(len(measured), len(replayed))
+            self.check_near(numpy.percentile(replayed, (50, 90, 99)), numpy.percentile(measured, (50, 90, 99)), 5)
+
+
+class Prefixes(unittest.TestCase):
+    """Prefixes of paths, by hand."""
+
+    def test_places(self):
+        names = ["/a/b/c", "/a/b", "/a/bb", "/a", "/c", ""]
+        self.assertEqual(route_search.places_on(["/a/b", "/a"], names).tolist(), [1, 1, 2, 2, 0, 0])
+        self.assertEqual(route_search.places_on([""], names).tolist(), [1] * 6)
+        self.assertEqual(route_search.named(["/a/", "/a/b", "/", "/a"]), ["/a/b", "/a", ""])
+
+    def test_enough(self):
+        """A prefix counts its requests beside those of longer ones that have enough."""
+        names = ["/a/b/c", "/a/b/d", "/a/b", "/a", "/e/f", "/e/g", "/h"]
+        counts = numpy.array([250, 150, 49, 1, 100, 100, 199])
+        self.assertEqual(sorted(route_search.with_enough(names, counts)), ["/a", "/a/b/c", "/e"])
+
+    def test_path(self):
+        for target, depth, path in ((b"/a/b/c/d?e", 3, "/a/b/c"), (b"/a//./%62/../c", 3, "/a/c"), (b"/", 3, ""),
+                                    (b"http://h/a", 3, "/a"), (b"/a/%zz", 3, None), (b"*", 3, None), (b"", 3, None),
+                                    (b"/" + b"x" * 119 + b"/y", 3, "/" + "x" * 119), (b"/a/b/c/d", 5, "/a/b/c/d")):
+            self.assertEqual(measured_times.path_of(target, depth), path)
+
+    def test_server_time(self):
+        """Of nginx's variables, over all servers that were tried."""
+        for text, time in ((b"0.005", 5_000), (b"0.005, 0.040", 45_000), (b"0.001 : 0.002, -", 3_000), (b"-", None),
+                           (b"-, -", None), (b"", None), (b"x", None)):
+            self.assertEqual(measured_times.server_time(text), time)
 
 
 class Limits(Base):
@@ -347,10 +558,9 @@ class Limits(Base):
         self.assertEqual(list(costs), ["prefix", "cost", "kib"])
         self.assertEqual(costs["prefix"], "/")
         self.check_near([costs["cost"], costs["kib"]], [2_000_000, 10_000], 5)
-        self.assertLessEqual(max(map(abs, self.held_out(output))), 5)
-        self.assertIn("best: 1 server, no delay: cost %d, kib %d microseconds" % (costs["cost"], costs["kib"]), output)
+        self.assertLessEqual(max(map(abs, self.missed(output))), 5)
         self.assertIn("the settings have a route for all paths, with one cost for any answer\n", output)
-        self.assertIn("cost %d" % costs["cost"], self.page.read_text())
+        self.assertIn("<td>%d " % costs["cost"], self.page.read_text())
 
     def test_longer_than_a_second_and_servers(self):
         """What isn't of the route stands beside it."""
@@ -365,7 +575,7 @@ class Limits(Base):
         sound = [one._replace(method="HEAD", status=200) for one in simulated(1, 1, (3000, 0, 3000), 0, 8_000, 400)]
         late = [one._replace(end=one.end + 10**16) for one in sound]
         slow = [one._replace(arrival=10**6 * one.arrival, end=10**6 * one.end) for one in sound]
-        for answers, key, greatest in ((late, "costs.delay", 10**9), (slow, "route.cost", 10**9)):
+        for answers, key, greatest in ((late, "(?:costs.delay|route.cost)", 10**9), (slow, "route.cost", 10**9)):
             status, output, errors = self.run_on(log_of(answers), "--page", str(self.page))
             self.assertEqual((status, output), (1, ""))
             self.assertRegex(errors, r"^calibrate: input: %s would be [0-9]+, and the program takes [01] to %d; "
@@ -380,21 +590,34 @@ class Warnings(Base):
         self.assertRegex(output, "WARNING: overloaded all along.* With costs 8% higher p99 is [0-9.]+ times as long")
 
     def test_nobody_met(self):
-        """Clients come far apart: no capacity can be told."""
-        output, _ = self.calibrated(log_of(simulated(7, 1, (3000, 40, 800), 0, 900_000, 600, burst=5)[:600]))
-        if "requests found another inside" not in output:
-            answers = [Answer(10**6 * place, 10**6 * place + 3000, "GET", 200, 100) for place in range(400)]
-            output, _ = self.calibrated(log_of(answers))
+        """Clients come far apart: no capacity can be told, and of answers of one size no cost of a KiB."""
+        answers = [Answer(10**6 * place, 0, 10**6 * place + 3000, "GET", 200, 100, "/a") for place in range(400)]
+        output, costs = self.calibrated(log_of(answers))
         self.assertRegex(output, "WARNING: only [0-9.]+% of the requests found another inside")
+        self.assertIn("the rest: all answers have one size, so kib can't be told from file: it is left at 0\n", output)
+        self.assertEqual(costs, {"file": 3000, "kib": 0})
 
-    def test_held_out(self):
-        """The server is five times as slow in the last third: the check says so."""
+    def slower(self):
+        """The log of a server that is five times as slow in the last third."""
         slow = simulated(8, 1, (15_000, 200, 4_000), 0, 40_000, 800)
         fast = simulated(9, 1, (3000, 40, 800), 0, 8_000, 1_600)
         last = max(one.end for one in fast)
-        output, _ = self.calibrated(log_of(fast + [
-            one._replace(arrival=one.arrival + last, end=one.end + last) for one in slow]))
-        self.assertIn("WARNING: the held-out check fails", output)
+        return log_of(fast + [one._replace(arrival=one.arrival + last, end=one.end + last) for one in slow])
+
+    def test_check_fails(self):
+        """What was found is printed, what to do is said, and an older output stays as it was."""
+        self.output.write_text("older")
+        status, output, errors = self.run_on(self.slower(), "--page", str(self.page))
+        self.assertEqual((status, self.output.read_text(), self.page.exists()), (1, "older", False))
+        self.assertLess(self.missed(output)[0], -25)
+        self.assertRegex(errors, r"^calibrate: the check fails, and nothing is written: all p50 -\d+%.*; all of the "
+                         r"second half was slower than the first: .*; --anyway writes it all the same\n$")
+
+    def test_anyway(self):
+        output, costs = self.calibrated(self.slower(), "--anyway")
+        self.assertEqual(list(costs)[:3], ["file", "kib", "error"])
+        for text in (output, self.output.read_text()):
+            self.assertIn("WARNING: the check fails: all p50 -", text)
 
     def test_absent_parts(self):
         """What nothing of the recording needs keeps its default: it isn't written."""
@@ -408,17 +631,26 @@ class Simulation(unittest.TestCase):
     def test_finishes(self):
         """By hand: three at once and one later; two servers are faster."""
         arrivals, services = numpy.array([0.0, 0.0, 0.0, 100.0]), numpy.array([10.0, 20.0, 30.0, 5.0])
-        self.assertEqual(cost_fit.finishes(arrivals, services, 1).tolist(), [10, 30, 60, 105])
-        self.assertEqual(cost_fit.finishes(arrivals, services, 2).tolist(), [10, 20, 40, 105])
+        for servers, begins, waited_for in (
+                (1, [0, 10, 30, 100], [-1, 0, 1, -1]), (2, [0, 0, 10, 100], [-1, -1, 0, -1]),
+                (cost_fit.ENOUGH, [0, 0, 0, 100], [-1, -1, -1, -1])):
+            found = cost_fit.begins_of(arrivals, services, servers)
+            self.assertEqual([one.tolist() for one in found], [begins, waited_for])
+        work = numpy.array([[1.0, 0.0], [2.0, 0.0], [0.0, 3.0], [0.0, 1.0]])
+        sums = cost_fit.along(numpy.array([-1, 0, 1, -1]), work)
+        self.assertEqual(sums.tolist(), [[1, 0], [3, 0], [3, 3], [0, 1]])
 
     def test_inside(self):
         """By hand: the second comes while the first is there, the third as it goes."""
-        requests = cost_fit.Requests(numpy.array([0.0, 5.0, 10.0]), numpy.array([10.0, 15.0, 20.0]), None)
+        requests = cost_fit.Requests(numpy.array([0.0, 5.0, 10.0]), numpy.array([10.0, 10.0, 10.0]), *7 * [None])
         self.assertEqual(cost_fit.found_inside(requests).tolist(), [0, 1, 1])
 
     def test_work(self):
-        work = cost_fit.work_of(["GET", "HEAD", "GET", "GET", "GET"], [200, 200, 304, 404, 301], [2048, 2048, 0, 9, 9])
-        self.assertEqual(work.tolist(), [[1, 2, 0], [1, 0, 0], [1, 0, 0], [0, 0, 1], [0, 0, 1]])
+        """A file of 2 KiB, another answer, and a file of 1 KiB and another answer on the second of two routes."""
+        requests = cost_fit.requests_of(*5 * [None], numpy.array([0, 0, 2, 2]), numpy.array([True, False, True, False]),
+                                        numpy.array([2.0, 0.0, 1.0, 0.0]))
+        self.assertEqual(cost_fit.work_of(requests, numpy.arange(7)).tolist(), [
+            [1, 2, 0, 0, 0, 0, 0], [0, 0, 1, 0, 0, 0, 0], [0, 0, 0, 0, 0, 1, 1], [0, 0, 0, 0, 0, 1, 0]])
 
 
 class Readers(unittest.TestCase):
@@ -428,7 +660,14 @@ class Readers(unittest.TestCase):
         with tempfile.TemporaryDirectory() as folder:
             path = os.path.join(folder, "packets")
             pathlib.Path(path).write_bytes(pcap_of(packets))
-            return measured_times.of_file(path, {80}, "timed")[:2]
+            return self.read(path, 80)
+
+    def read(self, path, port):
+        """What was measured, and counts of what was left out."""
+        taken, recorded = [], measured_times.Recorded(measured_times.Wanted((port,)))
+        with unittest.mock.patch.object(recorded, "take", taken.append), input_files.opened([path], int) as inputs:
+            measured_times.of_packets(inputs, recorded)
+        return taken, recorded.left_out
 
     def opened(self):
         return (packet(0, True, 9, 0, dpkt.tcp.TH_SYN), packet(1, False, 9, 0, dpkt.tcp.TH_SYN | dpkt.tcp.TH_ACK))
@@ -561,7 +800,7 @@ class Readers(unittest.TestCase):
     def test_recorded(self):
         """Packets of both directions that tcpdump recorded: 72 requests on twelve connections, a body of several
         packets, a request letter by letter, and three at once; the first times as tcpdump prints them."""
-        measured, left_out = measured_times.of_file(str(DATA / "loopback.pcap"), {18098}, "timed")[:2]
+        measured, left_out = self.read(str(DATA / "loopback.pcap"), 18098)
         self.assertEqual((len(measured), +left_out), (72 + 1 + 1 + 3, {}))
         self.assertEqual([(one.arrival, one.answer) for one in measured[:3]], [
             (1795413683734921, 1795413683735012), (1795413683740184, 1795413683740284),
@@ -619,15 +858,19 @@ class Faults(Base):
         self.assertIn("the output is the input; give it another name", errors.getvalue())
 
     def test_words(self):
-        for words in (["--port", "0"], ["--port", "65536"], ["--port", "x"]):
+        for words in (["--port", "0"], ["--port", "65536"], ["--port", "x"], ["--route", "api"], ["--route", "/a//b"],
+                      ["--route", "/a/.."], ["--route", "/\udcff"], ["--tier", "/a=4"], 65 * ["--route", "/a"]):
             self.assertEqual(self.run_on(b"", *words)[0], 2)
+        log = log_of(simulated(1, 1, (3000, 40, 800), 0, 8_000, 20, burst=5)[:20])
+        self.check(log, 2, "input: --tier: an address needs $remote_addr in the log's format", "--tier", "10.0.0.1=1",
+                   "--log-format", BEHIND.partition(" ")[2])
 
     def test_progress(self):
         """Lines where standard error is no terminal, of what is read and of what is fitted."""
         with unittest.mock.patch.object(tool_run, "PROGRESS_STEP", 0.0):
             _, _, errors = self.run_on(log_of(simulated(1, 1, (3000, 40, 800), 0, 8_000, 400)))
         self.assertRegex(errors, r"calibrate: 100% .*\[\d\d:\d\d<.*B/s\]\n")
-        self.assertRegex(errors, r"calibrate: 50% .*\[\d\d:\d\d<.*fit.*\]\n")
+        self.assertRegex(errors, r"calibrate: [1-9][0-9]?% .*\[\d\d:\d\d<.*fit.*\]\n")
 
     def test_mutated(self):
         """Bytes of logs and packets are changed at random: one line, and never a traceback."""

@@ -988,7 +988,8 @@ class Faults(Base):
                    "needs --at-most, which is to hold all over it")
         for word in ("0", "91", "1.5", "-1"):
             self.check(self.folder.words("--at-most", "p99=1", "--margin", word), 2,
-                       begin.replace("--set", "--margin") + "'%s' is no whole number of percent from 1 to 90" % word)
+                       begin.replace("--set", "--margin") + "'%s' is no whole number of percent from 1 to 90, "
+                       "nor calibrated" % word)
         self.assertEqual(self.folder.calls(), [])
 
     def test_routes(self):
@@ -1203,6 +1204,16 @@ class Program(Base):
                                                      *words, grid=("--set", "policy.fixed_rate=%d/s" % rate)))
             self.assertEqual((status, "WARNING" in errors), (0, bool(told)), errors)
             self.assertIn(told or "", errors)
+
+    def test_calibrated_margin(self):
+        """That of the settings, by the line that tools/calibrate.py writes."""
+        options = sweep.arguments(self.folder.words("--at-most", "p99=1", "--margin", "calibrated",
+                                                    "--settings", str(self.folder.settings)))
+        self.folder.settings.write_text("# margin\n%s[costs]\nfile = 7\n" % settings_documents.margin_line(12))
+        self.assertEqual(sweep.margin_of(options), 12)
+        self.folder.settings.write_text("[costs]\nfile = 7  %s" % settings_documents.margin_line(12))
+        with self.assertRaisesRegex(tool_run.Fault, "^--margin calibrated: no settings that tools/calibrate.py wrote"):
+            sweep.margin_of(options)
 
     def test_costs_of_a_margin(self):
         """Those of the defaults too, in whole microseconds, and none lower than the program takes; a delay is none."""
