@@ -20,9 +20,8 @@ FILE = re.compile(r"[\w.*/-]+\.(?:rt|antt|py|md|toml|txt|edit|sh|c)|"
 INSIDE = re.compile(r"_|[a-z0-9][A-Z]")
 # Names of the standard library, of crates of the toolchain, of other programs, and words that stand for many.
 OTHERS = set("""
-    BufWriter ComputesKey DELAYED_DRY_RUN File::write_vectored O_NOFOLLOW OnceLock OpenOptionsExt REJECTED_DRY_RUN
-    Write::write_vectored costs.toml custom_flags declared.MODULE.TheConstants first_set_mask_l response_headers_to_add
-    server_name
+    BufWriter DELAYED_DRY_RUN File::write_vectored O_NOFOLLOW OnceLock OpenOptionsExt REJECTED_DRY_RUN
+    Write::write_vectored costs.toml custom_flags response_headers_to_add server_name
 """.split())
 # What was there once and is told of as gone stands in these pages.
 PAST = {"CHANGELOG.md"}
