@@ -36,6 +36,7 @@ import urllib.parse
 # The folder stays as it is.
 sys.dont_write_bytecode = True
 import reference
+from program_parts import without_words
 
 SECONDS = 120
 HANGS = -1000
@@ -1051,7 +1052,8 @@ def run_program(program, words, files, written, seconds=SECONDS):
         except subprocess.TimeoutExpired:
             return HANGS, b"it hangs", b"", b""
         with open(os.path.join(folder, written), "rb") as file:
-            return child.returncode, child.stderr, file.read(), child.stdout
+            told = child.stderr if words[1] == "settings" else without_words(child.stderr)
+            return child.returncode, told, file.read(), child.stdout
 
 
 def run_replay(program, engine, snapshot, capture, settings, seconds=SECONDS):

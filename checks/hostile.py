@@ -20,6 +20,7 @@ import tempfile
 sys.dont_write_bytecode = True
 import compare_replays
 import reference
+from program_parts import without_words
 
 SECONDS = 120
 
@@ -191,7 +192,7 @@ def run(program, engine, snapshot, capture, settings):
             out.seek(0)
             err.seek(0)
             with open(os.path.join(folder, "replies"), "rb") as replies:
-                answer = child.returncode, err.read(), replies.read(), out.read()
+                answer = child.returncode, without_words(err.read()), replies.read(), out.read()
         return answer, used.ru_maxrss * 1024
 
 

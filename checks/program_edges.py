@@ -39,6 +39,7 @@ from program_parts import (
     first_files,
     program_of,
     snapshot_text,
+    without_words,
 )
 from worst_memory import RUNNER
 
@@ -349,7 +350,7 @@ def clash(program, folder, name, words):
         )
     changed = [one for one, data in files.items() if contents(os.path.join(folder, one)) != data]
     changed += ["new"] * os.path.exists(os.path.join(folder, "new"))
-    return ran.returncode, ran.stderr, changed
+    return ran.returncode, without_words(ran.stderr), changed
 
 
 def check_clashes(report, program):
@@ -393,7 +394,7 @@ def second_run(program, folder):
         second = subprocess.run(words, cwd=folder, stdin=subprocess.DEVNULL, capture_output=True, timeout=SECONDS)
         pipe.write(FILES["capture"])
     text, line = first.communicate(timeout=SECONDS)
-    return (second.returncode, second.stderr), (first.returncode, line, text, contents(replies))
+    return (second.returncode, without_words(second.stderr)), (first.returncode, line, text, contents(replies))
 
 
 def check_locked(report, program):
@@ -404,7 +405,7 @@ def check_locked(report, program):
             with open(os.path.join(folder, name), "rb") as held:
                 fcntl.flock(held, fcntl.LOCK_EX)
                 ran = subprocess.run([program, *words], cwd=folder, capture_output=True, timeout=SECONDS)
-            got = ran.returncode, ran.stderr, contents(os.path.join(folder, name))
+            got = ran.returncode, without_words(ran.stderr), contents(os.path.join(folder, name))
         report.see_told("an output that is locked: " + words[0], got == (6, line, OLD), got)
     with tempfile.TemporaryDirectory() as folder:
         shell(program, folder, "cp output replies")
@@ -443,7 +444,7 @@ def check_devices(report, program):
     for name, command, status, wanted in DEVICES:
         with tempfile.TemporaryDirectory() as folder:
             got = shell(program, folder, "{ " + command + "; } 2>/dev/null" if "2>" not in command else command)
-            text = contents(os.path.join(folder, "output"))
+            text = without_words(contents(os.path.join(folder, "output")))
         report.see("devices: " + name, (got, text) == (status, wanted), (got, text))
 
 
@@ -499,7 +500,8 @@ def check_descriptors(report, program):
                 timeout=SECONDS,
                 preexec_fn=lambda: resource.setrlimit(resource.RLIMIT_NOFILE, (most, most)),
             )
-            every.append((ran.returncode, ran.stderr, contents(os.path.join(folder, "output"))))
+            told = without_words(ran.stderr)
+            every.append((ran.returncode, told, contents(os.path.join(folder, "output"))))
         report.see_told("%d open files" % most, every[-1] == NONE_LEFT_OUT or is_cut(every[-1]), every[-1])
     reading = [got for got in every if is_cut(got) and got[2] != OLD]
     report.see("open files: a fault at the listing, at a file", is_cut(every[0]) and reading, every)

@@ -3,6 +3,7 @@ a folder, and the runs of the program over files and folders.
 """
 import argparse
 import os
+import re
 import socket
 import subprocess
 import sys
@@ -95,6 +96,11 @@ OLD = b"old replies\n"
 OLDEST = b"x" * 5000
 TIME = 784111777
 PIPE, SOCKET, FOLDER = "a pipe", "a socket", "a folder"
+# A fault's line, and the line of words that may follow it (checks/program_words.py compares the words).
+IN_WORDS = re.compile(
+    rb"(haboob: (?:(?:open|read): \w+|engine|format|speed|settings: .+|(?:capture: record|snapshot: entry) 0: \w+)\n)"
+    rb"haboob: .+\n"
+)
 
 
 def program_of(description):
@@ -130,6 +136,11 @@ class Report:
         """Says how many runs there were. The status to end with."""
         print("%d runs, %d wrong, %d not tried" % (self.runs, self.wrong, self.untried))
         return int(self.wrong != 0)
+
+
+def without_words(text):
+    """What was written on standard error, without the line of words that follows a fault's."""
+    return IN_WORDS.sub(rb"\1", text)
 
 
 def is_told(text, wanted):
@@ -275,12 +286,12 @@ def command(program, words, folder):
         timeout=SECONDS * 3,
         preexec_fn=without_rights,
     )
-    return child.returncode, child.stderr + child.stdout
+    return child.returncode, without_words(child.stderr) + child.stdout
 
 
 def run_over_files(program, words, folder, out, verb="replay"):
-    """The status, the text on standard error, the replies and the report of one run over files, which keep their
-    bytes."""
+    """The status, the text on standard error (its words for `settings` alone), the replies and the report of one run over
+    files, which keep their bytes."""
     os.mkdir(os.path.join(folder, "folder"))
     for name, data in [("replies", OLD), ("other", OLD), *FILES.items()]:
         with open(os.path.join(folder, name), "wb") as file:
@@ -300,7 +311,8 @@ def run_over_files(program, words, folder, out, verb="replay"):
             if file.read() != data:
                 sys.exit("WRONG: %s: the file %s was changed" % (" ".join(words), name))
     with open(os.path.join(folder, "replies"), "rb") as file:
-        return child.returncode, child.stderr, file.read(), child.stdout
+        told = child.stderr if verb == "settings" else without_words(child.stderr)
+        return child.returncode, told, file.read(), child.stdout
 
 
 def rewrite(program, verb, capture, words, folder):
@@ -320,4 +332,5 @@ def rewrite(program, verb, capture, words, folder):
         timeout=SECONDS,
     )
     with open(os.path.join(folder, "output"), "rb") as output, open(os.path.join(folder, "capture"), "rb") as kept:
-        return child.returncode, child.stderr, output.read(), kept.read(), child.stdout
+        told = without_words(child.stderr)
+        return child.returncode, told, output.read(), kept.read(), child.stdout

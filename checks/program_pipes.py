@@ -1,8 +1,11 @@
 #!/usr/bin/env python3
 """Runs the program from standard input to standard output, on pipes, files, closed and full devices, and compares its
-status, its line on standard error and what it wrote with a table.
+status, its line on standard error and what it wrote with a table. Then replays whose replies nobody takes for a while,
+with standard error on a terminal, which is to show their progress, and on a pipe.
 """
 import os
+import pty
+import re
 import resource
 import subprocess
 import sys
@@ -396,6 +399,45 @@ def cut_anywhere():
         text += part
 
 
+# Nobody takes the replies for so many seconds, which is longer than a run is without a word of its progress.
+LEFT_ALONE = 2.5
+SHOWN = re.compile(rb"(?:\r\x1b\[Khaboob: \d{1,2}% read, \d+ s left)+\r\x1b\[K")
+
+
+def left_alone(program, engine, error):
+    """The status of a replay whose replies are taken late, and its replies."""
+    with tempfile.TemporaryDirectory() as folder:
+        for name, data in (("snapshot", SNAPSHOT), ("capture", LONG.removeprefix(SNAPSHOT))):
+            with open(os.path.join(folder, name), "wb") as file:
+                file.write(data)
+        replies = os.path.join(folder, "replies")
+        os.mkfifo(replies)
+        words = [program, "replay", "--engine", engine]
+        words += [word for name in ("snapshot", "capture", "replies") for word in ("--" + name, name)]
+        child = subprocess.Popen(words, cwd=folder, stdin=subprocess.DEVNULL, stdout=subprocess.DEVNULL, stderr=error)
+        with open(replies, "rb") as pipe:
+            time.sleep(LEFT_ALONE)
+            taken = pipe.read()
+        return child.wait(timeout=SECONDS), taken
+
+
+def check_progress(report, program):
+    """A run that takes long shows on a terminal how far it is, and nothing elsewhere."""
+    for engine in ("plain", "staged"):
+        shown, terminal = pty.openpty()
+        status, taken = left_alone(program, engine, terminal)
+        os.close(terminal)
+        told = os.read(shown, 10_000)
+        os.close(shown)
+        good = status == 0 and taken.endswith(b"stop 5000\n") and SHOWN.fullmatch(told)
+        report.see("progress on a terminal, " + engine, good, (status, told))
+        with tempfile.TemporaryFile() as error:
+            status, taken = left_alone(program, engine, error)
+            error.seek(0)
+            told = error.read()
+        report.see("no progress in a file, " + engine, (status, told) == (0, b""), (status, told))
+
+
 def main():
     program = program_of(__doc__)
     report = Report()
@@ -413,6 +455,7 @@ def main():
     report.see("an error that can't be written", got == 4, got)
     got = little_memory(program)
     report.see_told("little memory", got == (7, b"haboob: memory\n", b""), got)
+    check_progress(report, program)
     return report.end()
 
 

@@ -102,6 +102,8 @@ FAULTS = [
     ("[policy\n", told("Text", NO_TOML)),
 ]
 
+ABSENT_WORDS = b"haboob: absent: No such file or directory (os error 2)\n"
+FOLDER_WORDS = b"haboob: folder: Is a directory (os error 21)\n"
 # The words after `settings`, and then as in program_replays.py.
 RUNS = [
     ("the default ones", [], 0, b"", OLD, DEFAULTS),
@@ -112,8 +114,8 @@ RUNS = [
     ("depth 0", ["--settings", "depth"], 3, told("Range policy.depth", DEPTH_WORDS), OLD, b""),
     ("an unknown key", ["--settings", "unknown"], 3, told("Unknown", DEEP_WORDS), OLD, b""),
     ("a capture", ["--settings", "capture"], 3, told("Text", NO_TOML), OLD, b""),
-    ("a file that isn't there", ["--settings", "absent"], 6, b"haboob: open: settings\n", OLD, b""),
-    ("a folder", ["--settings", "folder"], 6, b"haboob: read: settings\n", OLD, b""),
+    ("a file that isn't there", ["--settings", "absent"], 6, b"haboob: open: settings\n" + ABSENT_WORDS, OLD, b""),
+    ("a folder", ["--settings", "folder"], 6, b"haboob: read: settings\n" + FOLDER_WORDS, OLD, b""),
     ("a document without an end", ["--settings", "/dev/zero"], 3, told("Text", TOO_LONG), OLD, b""),
     ("a word more", ["settings"], 2, None, OLD, b""),
     ("help", ["--help"], 2, None, OLD, b""),

@@ -20,6 +20,7 @@ import tempfile
 # The folder stays as it is.
 sys.dont_write_bytecode = True
 import devices
+from program_parts import without_words
 
 SECONDS = 20
 # So many runs that meet no refusal end a sweep.
@@ -66,7 +67,9 @@ class Ending:
     """How a run ended: its status, its line, what it wrote to standard output and into its file."""
 
     def __init__(self, ran, written):
-        self.status, self.line, self.output, self.written = ran.returncode, ran.stderr, ran.stdout, written
+        self.status, self.output, self.written = ran.returncode, ran.stdout, written
+        # where there is no memory for the words, a fault's line alone is told
+        self.line = without_words(ran.stderr)
 
     def is_same(self, other):
         return vars(self) == vars(other)

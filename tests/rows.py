@@ -30,6 +30,10 @@ ENDS = {
 }
 KEYS = {"name", "command", "words", "engines", "texts", "files", "pieces", "bytes", "cut", "sizes", "stdin", "each_cut",
         "status", "error", "prints", "lines", "columns", "writes", "messages", "outline", "parts", "absent"}
+# A fault's line, and the line of words that may follow it: rows compare the words where they have a second line.
+IN_WORDS = re.compile(
+    r"(haboob: (?:(?:open|read): \w+|engine|format|speed|settings: .+|(?:capture: record|snapshot: entry) 0: \w+)\n)"
+    r"haboob: .+\n")
 MARK = re.compile(r"\$\{(?:'([^']*)'|(\w+))(?: \* (\d+))?\}")
 
 
@@ -162,7 +166,8 @@ class Row:
                 wrong.append("%s: %r\n  wanted %r" % (what, got, want))
 
         see("status", status, wanted.get("status", 0))
-        see("standard error", error, self.text(wanted["error"]) + "\n" if wanted.get("error") else "")
+        line = self.text(wanted["error"]) + "\n" if wanted.get("error") else ""
+        see("standard error", error if line.count("\n") > 1 else IN_WORDS.sub(r"\1", error), line)
         if status == 0:
             ends = [(name, files.get(name, "") if name else printed, form)
                     for name, form in ENDS.get(self.values.get("command"), [])]

@@ -3,36 +3,39 @@
 //! Without arguments it reads from standard input a snapshot directly followed by a capture, and writes the replies to
 //! standard output. Its commands read and write files: `haboob replay` writes the replies, `haboob explain` a table of
 //! decisions in their place, and both a report to standard output; `haboob snapshot` writes the files of a folder as a
-//! snapshot, `haboob inspect` tells what a capture holds, `haboob upgrade` writes one in a later format, and
-//! `haboob settings` writes out the settings that are in force. A fault is reported by one line on standard error,
-//! after which `haboob settings` says in words what is wrong, and by the status that the program ends with.
+//! snapshot, `haboob inspect` tells what a capture holds, `haboob upgrade` writes one in a later format, `haboob slim`
+//! without what no answer depends on, and `haboob settings` writes out the settings that are in force. A fault is
+//! reported by one line on standard error, after which one more says in words what is wrong, where that is known, and
+//! by the status that the program ends with. A long run shows its progress there, where it is a terminal.
 #![tactic(auto)]
 
 mod cursor;
+mod explained;
 mod files;
 mod folder;
+mod looks;
 mod open_folder;
 mod opening;
 mod overwritten;
+mod source;
 
 use captures::Version;
 use command_line::{Job, Target, WordFault, read_words};
 use devices::Output;
+use explained::Explained;
 use files::{
     bundle, inspect_named, replay_named, settings_named, slim_named, snapshot_named, upgrade_named,
 };
 use opening::Names;
-use overwritten::Node;
+use overwritten::{Node, STANDARD_OUTPUT};
 use program::{Fault, Place, Wanted, shown_name};
+use source::EMPTY_LINE;
 use std::alloc::{AllocError, Global};
 use std::env;
-use std::io::ErrorKind;
+use std::io::{ErrorKind, IsTerminal, Write};
 use std::process::ExitCode;
 use std::sync::Wait;
 use std::thread::Threads;
-
-/// Where the system shows what standard output is open on.
-const STANDARD_OUTPUT: &str = "/proc/self/fd/1";
 
 /// What is said of arguments that are no text.
 const NOT_TEXT: &str = "error: a word is not UTF-8\n\nFor more information, try '--help'.\n";
@@ -72,22 +75,17 @@ fn version_of(to: Target) -> Version {
 }
 
 /// Does what the arguments ask for: a run from standard input to standard output, or one over the files that they name.
-/// `words` gets what is to be said after the line of a fault, where the job says more of it.
 ///
 /// Which arguments there are, and what the files hold, is the system's to say: no contract can. Tests do, and
 /// the scripts checks/program_*.py.
-fn run_arguments<T: Threads + Wait + Sync>(
-    rt: &HostRuntime,
-    threads: &T,
-    words: &mut Vec<u8>,
-) -> Result<(), Fault> {
+fn run_arguments<T: Threads + Wait + Sync>(rt: &HostRuntime, threads: &T) -> Result<(), Explained> {
     let alloc = rt.alloc();
     let arguments = arguments_of(rt)?;
     // Which file it is, before any other can get its number.
     let standard = Node::at(rt, STANDARD_OUTPUT);
     let job = match read_words(alloc, &arguments) {
         Ok(job) => job,
-        Err(fault) => return Err(reported_of_words(alloc, &arguments, fault)?),
+        Err(fault) => return Err(reported_of_words(alloc, &arguments, fault)?.into()),
     };
     match job {
         Job::Bundle => bundle(rt, standard),
@@ -126,7 +124,7 @@ fn run_arguments<T: Threads + Wait + Sync>(
                 written: messages,
                 place: Place::Messages,
             };
-            replay_named(rt, threads, standard, &names).map_err(Fault::of_rows)
+            replay_named(rt, threads, standard, &names).map_err(Explained::of_rows)
         }
         Job::Inspect { capture } => inspect_named(rt, standard, capture),
         Job::Upgrade {
@@ -145,19 +143,38 @@ fn run_arguments<T: Threads + Wait + Sync>(
             output,
             skip,
         } => snapshot_named(rt, folder, output, skip),
-        Job::Settings { settings } => settings_named(rt, standard, settings, words),
+        Job::Settings { settings } => settings_named(rt, standard, settings),
+    }
+}
+
+/// What is said after the line of a fault of the arguments that one word names.
+fn words_on(fault: &Fault) -> &'static [u8] {
+    match fault {
+        Fault::Words(WordFault::Engine) => b"haboob: --engine is to be plain or staged\n",
+        Fault::Words(WordFault::Format) => b"haboob: --to is to be 2 or traffic\n",
+        Fault::Words(WordFault::Speed) => {
+            b"haboob: --speed is to be 100 to 10000, in percent of the speed of the recording\n"
+        }
+        _ => b"",
     }
 }
 
 fn main(rt: HostRuntime) -> ExitCode {
-    let mut words = Vec::new(rt.alloc());
-    match run_arguments(&rt, &rt, &mut words) {
+    let ran = run_arguments(&rt, &rt);
+    // The progress that was shown goes.
+    if rt.stderr().is_terminal() {
+        let _ = rt.stderr().write_all(EMPTY_LINE);
+    }
+    match ran {
         Ok(()) => ExitCode::SUCCESS,
-        Err(fault) => {
+        Err(Explained { fault, words }) => {
             let mut reported = Output::new(rt.stderr());
             // Where standard error can't be written either, the status alone reports the fault.
             if fault.write_line(&mut reported).is_ok() {
-                let _ = reported.write_all(&words);
+                let _ = match words {
+                    Some(words) => reported.write_all(&words),
+                    None => reported.write_all(words_on(&fault)),
+                };
             }
             ExitCode::from(fault.status())
         }

@@ -3,45 +3,46 @@
 ghost use Rattle.std.specs.Prelude.{◌≡◌, ◌<◌, ◌-◌, ◌^◌, IfOk};
 ghost use Rattle.devices.specs.Devices.{CanFail};
 
+use crate::explained::Explained;
 use crate::overwritten::{Node, Overwritten};
+use crate::source::{STANDARD, Source};
 use devices::Input;
 use program::{Fault, Place, Wanted, buffered_input};
-use std::fs::File;
+use std::alloc::Global;
 use std::io::BufReader;
-
-/// A file that is there, to be read.
-pub(crate) fn open(rt: &HostRuntime, name: &str, place: Place) -> Result<File, Fault> {
-    match File::open(rt, name) {
-        Ok(file) => Ok(file),
-        Err(_) => Err(Fault::Open(place)),
-    }
-}
 
 /// Refuses a standard output that is one of the inputs, before anything is written.
 pub(crate) fn check_standard(
+    alloc: Global,
     standard: Option<Node>,
     inputs: &[Option<Node>],
     place: Place,
-) -> Result<(), Fault> {
+) -> Result<(), Explained> {
     match standard {
-        Some(node) if node.is_kept_in(inputs) => Err(Fault::Open(place)),
+        Some(node) if node.is_kept_in(inputs) => Err(Explained::on(
+            alloc,
+            Fault::Open(place),
+            "standard output",
+            "it is an input too",
+        )),
         _ => Ok(()),
     }
 }
 
 /// A capture file, and another that is to hold a text of it.
-pub(crate) fn open_both(
-    rt: &HostRuntime,
+pub(crate) fn open_both<'a>(
+    rt: &'a HostRuntime,
     capture: &str,
     output: &str,
-) -> Result<(File, Overwritten), Fault> {
-    let capture = open(rt, capture, Place::Capture)?;
-    let inputs = [Some(Node::of(&capture, Place::Capture)?)];
-    let mut output = Overwritten::open(rt, output, Place::Output, &inputs)?;
-    if output.empty().is_err() {
-        return Err(Fault::Open(Place::Output));
+) -> Result<(Source<'a>, Overwritten), Explained> {
+    let capture = Source::open(rt, capture, Place::Capture)?;
+    let inputs = [capture.node(Place::Capture)?];
+    let mut opened = Overwritten::open(rt, output, Place::Output, &inputs)?;
+    if let Err(error) = opened.empty() {
+        let fault = Fault::Open(Place::Output);
+        return Err(Explained::by(rt.alloc(), fault, output, &error));
     }
-    Ok((capture, output))
+    Ok((capture.shown(), opened))
 }
 
 /// The names of a replay's files, and what is wanted of its messages.
@@ -60,22 +61,40 @@ pub(crate) struct Names<'a> {
 
 /// The inputs of a replay, open, and which files they are.
 #[derive(Drop)]
-struct Inputs {
-    snapshot: File,
-    capture: File,
+struct Inputs<'a> {
+    snapshot: Source<'a>,
+    capture: Source<'a>,
     nodes: [Option<Node>; 2],
 }
 
+/// Refuses a second input that is to come from standard input.
+fn check_once(alloc: Global, names: &Names) -> Result<(), Explained> {
+    let settings = names.settings == Some(STANDARD);
+    let snapshot = names.snapshot == STANDARD;
+    let place = if settings && snapshot {
+        Place::Snapshot
+    } else if (settings || snapshot) && names.capture == STANDARD {
+        Place::Capture
+    } else {
+        return Ok(());
+    };
+    let what = "standard input is another input already";
+    Err(Explained::on(alloc, Fault::Open(place), STANDARD, what))
+}
+
 /// Opens the inputs of a replay.
-fn open_inputs(rt: &HostRuntime, names: &Names) -> Result<Inputs, Fault> {
-    let snapshot = open(rt, names.snapshot, Place::Snapshot)?;
-    let capture = open(rt, names.capture, Place::Capture)?;
-    let first = Node::of(&snapshot, Place::Snapshot)?;
-    let second = Node::of(&capture, Place::Capture)?;
+fn open_inputs<'a>(rt: &'a HostRuntime, names: &Names) -> Result<Inputs<'a>, Explained> {
+    check_once(rt.alloc(), names)?;
+    let snapshot = Source::open(rt, names.snapshot, Place::Snapshot)?;
+    let capture = Source::open(rt, names.capture, Place::Capture)?;
+    let nodes = [
+        snapshot.node(Place::Snapshot)?,
+        capture.node(Place::Capture)?,
+    ];
     Ok(Inputs {
         snapshot,
-        capture,
-        nodes: [Some(first), Some(second)],
+        capture: capture.shown(),
+        nodes,
     })
 }
 
@@ -87,28 +106,38 @@ fn open_written(
     settings: Option<Node>,
     inputs: [Option<Node>; 2],
     names: &Names,
-) -> Result<Overwritten, Fault> {
+) -> Result<Overwritten, Explained> {
     let [snapshot, capture] = inputs;
-    check_standard(standard, &[snapshot, capture, settings], Place::Report)?;
+    let alloc = rt.alloc();
+    if names.written == STANDARD {
+        let fault = Fault::Open(names.place);
+        return Err(Explained::on(alloc, fault, STANDARD, "standard output gets the report"));
+    }
+    check_standard(
+        alloc,
+        standard,
+        &[snapshot, capture, settings],
+        Place::Report,
+    )?;
     let others = [snapshot, capture, settings, standard];
     Overwritten::open(rt, names.written, names.place, &others)
 }
 
 /// The files of a replay, but for the settings, with a buffer before each input.
 #[derive(Drop)]
-pub(crate) struct Opened {
-    pub snapshot: Input<BufReader<File>>,
-    pub capture: Input<BufReader<File>>,
+pub(crate) struct Opened<'a> {
+    pub snapshot: Input<BufReader<Source<'a>>>,
+    pub capture: Input<BufReader<Source<'a>>>,
     pub written: Overwritten,
 }
 
 /// Opens the files of a replay in the order snapshot, capture, output.
-pub(crate) fn open_files(
-    rt: &HostRuntime,
+pub(crate) fn open_files<'a>(
+    rt: &'a HostRuntime,
     standard: Option<Node>,
     settings: Option<Node>,
     names: &Names,
-) -> Result<Opened, Fault>
+) -> Result<Opened<'a>, Explained>
     // No read of them has failed yet.
     ensures { IfOk result (λ opened. CanFail opened.snapshot × CanFail opened.capture) }
 {

@@ -1,10 +1,16 @@
 //! An output that is emptied at its first byte, and is no input.
 
+use crate::explained::Explained;
+use crate::opening::check_standard;
+use crate::source::STANDARD;
 use program::{Fault, Place};
 use std::fs::{File, Metadata, OpenOptions, TryLockError, metadata};
 use std::io;
-use std::io::Write;
+use std::io::{Stdout, Write};
 use std::os::unix::fs::MetadataExt;
+
+/// Where the system shows what standard output is open on.
+pub const STANDARD_OUTPUT: &str = "/proc/self/fd/1";
 
 /// Which file this is, whatever its name: a node of a device.
 #[derive(Clone, Copy, PartialEq)]
@@ -44,55 +50,92 @@ impl Node {
     }
 }
 
-/// Locks a file up to when it is closed; a fault where another run has locked it. Where its system has no locks, it is
+/// Locks a file up to when it is closed; whether no other run has locked it. Where its system has no locks, it is
 /// written without one.
-fn lock(file: &File, place: Place) -> Result<(), Fault> {
-    match file.try_lock() {
-        Err(TryLockError::WouldBlock) => Err(Fault::Open(place)),
-        _ => Ok(()),
-    }
+fn lock(file: &File) -> bool {
+    !matches!(file.try_lock(), Err(TryLockError::WouldBlock))
 }
 
-/// A file to be written. Where it is there it keeps its bytes until the first byte is written, and is emptied then.
-/// What can't be emptied, as a pipe, is written as it is.
+/// Why a file that is open for writing isn't written, where it isn't.
+fn refusal(file: &File, node: Node, others: &[Option<Node>]) -> Option<&'static str> {
+    if node.is_kept_in(others) {
+        return Some("it is an input, or standard output, too");
+    }
+    if node.is_regular && !lock(file) {
+        return Some("another run is writing it");
+    }
+    None
+}
+
+/// What an output is open on.
+#[derive(Drop)]
+enum Opened {
+    File {
+        file: File,
+        /// Whether it is still to be emptied.
+        is_to_be_emptied: bool,
+    },
+    Standard(Stdout),
+}
+
+/// An output: standard output, or a file. A file that is there keeps its bytes until the first byte is written, and is
+/// emptied then. What can't be emptied, as a pipe, is written as it is.
 #[derive(Drop)]
 pub struct Overwritten {
-    file: File,
-    /// Whether it is still to be emptied.
-    is_to_be_emptied: bool,
+    opened: Opened,
 }
 
 impl Overwritten {
-    /// Opens a file to be written. A regular one that is among the others, the inputs and standard output, is refused
-    /// and keeps its bytes; so is one that another run is writing.
+    /// Standard output, which is refused where it is a regular file that is among the others.
+    fn standard(
+        rt: &HostRuntime,
+        place: Place,
+        others: &[Option<Node>],
+    ) -> Result<Overwritten, Explained> {
+        let node = Node::at(rt, STANDARD_OUTPUT);
+        check_standard(rt.alloc(), node, others, place)?;
+        Ok(Overwritten {
+            opened: Opened::Standard(rt.stdout()),
+        })
+    }
+
+    /// Opens an output. A regular file that is among the others, the inputs and standard output, is refused and keeps
+    /// its bytes; so is one that another run is writing.
     pub fn open(
         rt: &HostRuntime,
         name: &str,
         place: Place,
         others: &[Option<Node>],
-    ) -> Result<Overwritten, Fault> {
-        let opened = OpenOptions::new().write(true).create(true).open(rt, name);
-        let Ok(file) = opened else {
-            return Err(Fault::Open(place));
+    ) -> Result<Overwritten, Explained> {
+        if name == STANDARD {
+            return Overwritten::standard(rt, place, others);
+        }
+        let file = match OpenOptions::new().write(true).create(true).open(rt, name) {
+            Ok(file) => file,
+            Err(error) => return Err(Explained::by(rt.alloc(), Fault::Open(place), name, &error)),
         };
         let node = Node::of(&file, place)?;
-        if node.is_kept_in(others) {
-            return Err(Fault::Open(place));
-        }
-        if node.is_regular {
-            lock(&file, place)?;
+        if let Some(why) = refusal(&file, node, others) {
+            return Err(Explained::on(rt.alloc(), Fault::Open(place), name, why));
         }
         Ok(Overwritten {
-            file,
-            is_to_be_emptied: node.is_regular,
+            opened: Opened::File {
+                file,
+                is_to_be_emptied: node.is_regular,
+            },
         })
     }
 
     /// Empties the file, where that is still to be done.
     pub fn empty(&mut self) -> io::Result<()> {
-        if self.is_to_be_emptied {
-            self.file.set_len(0)?;
-            self.is_to_be_emptied = false;
+        if let Opened::File {
+            file,
+            is_to_be_emptied,
+        } = &mut self.opened
+            && *is_to_be_emptied
+        {
+            file.set_len(0)?;
+            *is_to_be_emptied = false;
         }
         Ok(())
     }
@@ -101,10 +144,16 @@ impl Overwritten {
 impl Write for Overwritten {
     fn write(&mut self, bytes: &[u8]) -> io::Result<usize> {
         self.empty()?;
-        self.file.write(bytes)
+        match &mut self.opened {
+            Opened::File { file, .. } => file.write(bytes),
+            Opened::Standard(output) => output.write(bytes),
+        }
     }
 
     fn flush(&mut self) -> io::Result<()> {
-        self.file.flush()
+        match &mut self.opened {
+            Opened::File { file, .. } => file.flush(),
+            Opened::Standard(output) => output.flush(),
+        }
     }
 }
