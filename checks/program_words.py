@@ -286,7 +286,7 @@ def main():
     for word in WRONG_FORMATS:
         for capture in ("capture", "absent"):
             got = run(program, ["upgrade", "--capture", capture, "--output", "new", "--to=" + word])
-            wanted = 2, b"haboob: format\nhaboob: --to is to be 2 or traffic\n", b"", set()
+            wanted = 2, b"haboob: format\nhaboob: the format is to be 2 or traffic\n", b"", set()
             report.see_told("upgrade to %r of %s" % (word, capture), got == wanted, got)
     for (verb, inputs, output), word in itertools.product(COMMANDS[:2], WRONG_SPEEDS):
         got = run(program, words_of(verb, inputs, output, ("capture",)) + ["--speed=" + word])

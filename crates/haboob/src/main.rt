@@ -148,10 +148,10 @@ fn run_arguments<T: Threads + Wait + Sync>(rt: &HostRuntime, threads: &T) -> Res
 }
 
 /// What is said after the line of a fault of the arguments that one word names.
-fn words_on(fault: &Fault) -> &'static [u8] {
+fn argument_words(fault: &Fault) -> &'static [u8] {
     match fault {
         Fault::Words(WordFault::Engine) => b"haboob: --engine is to be plain or staged\n",
-        Fault::Words(WordFault::Format) => b"haboob: --to is to be 2 or traffic\n",
+        Fault::Words(WordFault::Format) => b"haboob: the format is to be 2 or traffic\n",
         Fault::Words(WordFault::Speed) => {
             b"haboob: --speed is to be 100 to 10000, in percent of the speed of the recording\n"
         }
@@ -173,7 +173,7 @@ fn main(rt: HostRuntime) -> ExitCode {
             if fault.write_line(&mut reported).is_ok() {
                 let _ = match words {
                     Some(words) => reported.write_all(&words),
-                    None => reported.write_all(words_on(&fault)),
+                    None => reported.write_all(argument_words(&fault)),
                 };
             }
             ExitCode::from(fault.status())
