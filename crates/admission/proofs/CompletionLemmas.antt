@@ -1,6 +1,6 @@
 -- The requests in the order of their completions.
-use Rattle.std.proofs.Common.{◌≡◌, ℕ, suc, ◌+◌, ◌<◌, ◌≤◌, List, [], ◌∷◌, ◌++◌, length, map, cond, nat_le, refl, sym, ◌∙◌, ap, arith, inl, inr, if◌then◌else◌}
-use Rattle.std.specs.Prelude.{nat_lt}
+use Rattle.std.proofs.Common.{◌≡◌, ℕ, zero, suc, ◌+◌, ◌<◌, ◌≤◌, List, [], ◌∷◌, ◌++◌, length, map, cond, nat_le, refl, sym, ◌∙◌, ap, arith, inl, inr, if◌then◌else◌}
+use Rattle.std.specs.Prelude.{nat_lt, take}
 use Rattle.std.proofs.lemmas.Bool.{le-leb, lt-leb, lt-ltb, le-ltb, cases_lt}
 use Rattle.std.proofs.lemmas.List.Sums.{sum_by-cons, sum_by-append, sum_by_push}
 use Rattle.admission.specs.Reference.{Served, completion, done, insert_complete, by_completion}
@@ -189,12 +189,42 @@ none-done u [] all = refl
 none-done u (x ∷ requests) all =
     done-cons x requests u ∙ rw (lt-leb (completion x) u (omega (arith, all.0)), none-done u requests all.1) refl
 
+-- those that stand before some that aren't complete
+done-parts : (u : ℕ) (requests first rest : List Served) → by_completion requests ≡ first ++ rest
+    → AllFrom (u + 1) (map completion rest) → done requests u ≡ done first u
+done-parts u requests first rest is later =
+    sym (done-by_completion requests u) ∙ ap (λ (rs : List Served). done rs u) is ∙ sum_by-append (is_done u) first rest
+    ∙ (let none = none-done u rest later in omega (arith, none))
+
+done-most : (u : ℕ) (requests : List Served) → done requests u ≤ length requests
+done-most u [] = omega arith
+done-most u (x ∷ requests) =
+    elim (cases_lt u (completion x)) [
+      | inl later ↦ rw (done-cons x requests u, lt-leb (completion x) u later) (omega (arith, done-most u requests))
+      | inr now ↦ rw (done-cons x requests u, le-leb (completion x) u now) (omega (arith, done-most u requests))
+    ]
+
+done-least : (u m : ℕ) (requests : List Served) → m ≤ length requests → AllUpTo u (take m (map completion requests)) → m ≤ done requests u
+unfolding AllUpTo
+done-least u zero requests le all = omega arith
+done-least u (suc m) [] le all = absurd (omega (arith, le))
+done-least u (suc m) (x ∷ requests) le all =
+    rw (done-cons x requests u, le-leb (completion x) u all.0)
+    (omega (arith, done-least u m requests (omega (arith, le)) all.1))
+
+-- where the first m are complete and those behind aren't
+pub done-between : (u m : ℕ) (requests first rest : List Served) → by_completion requests ≡ first ++ rest → m ≤ length first
+    → AllUpTo u (take m (map completion first)) → AllFrom (u + 1) (map completion rest)
+    → (m ≤ done requests u) × (done requests u ≤ length first)
+done-between u m requests first rest is le past later =
+    let parts : done requests u ≡ done first u = done-parts u requests first rest is later in
+    rw parts (done-least u m first le past, done-most u first)
+
 -- as many are complete as stand before those that aren't
 pub done-split : (u : ℕ) (requests first rest : List Served) → by_completion requests ≡ first ++ rest
     → AllUpTo u (map completion first) → AllFrom (u + 1) (map completion rest) → done requests u ≡ length first
 done-split u requests first rest is past later =
-    sym (done-by_completion requests u) ∙ ap (λ (rs : List Served). done rs u) is ∙ sum_by-append (is_done u) first rest
-    ∙ (let all = all-done u first past in let none = none-done u rest later in omega (arith, all, none))
+    done-parts u requests first rest is later ∙ all-done u first past
 
 -- ---- the first that are complete at a tick, and the others
 
@@ -279,3 +309,9 @@ pub upto-push : (u : ℕ) (xs : List ℕ) (x : ℕ) → AllUpTo u xs → x ≤ u
 unfolding AllUpTo
 upto-push u [] x all le = (le, tt)
 upto-push u (y ∷ xs) x all le = (all.0, upto-push u xs x all.1 le)
+
+pub upto-take : (u n : ℕ) (xs : List ℕ) → AllUpTo u xs → AllUpTo u (take n xs)
+unfolding AllUpTo
+upto-take u zero xs all = tt
+upto-take u (suc n) [] all = tt
+upto-take u (suc n) (x ∷ xs) all = (all.0, upto-take u n xs all.1)

@@ -62,7 +62,7 @@ quotient_next e n some due =
       | inr next ↦ next
     ]
 
-quotient_same : (e n : ℕ) → 0 < e → ((n + 1) % e ≡ 0 → ⊥) → (n + 1) / e ≡ n / e
+pub quotient_same : (e n : ℕ) → 0 < e → ((n + 1) % e ≡ 0 → ⊥) → (n + 1) / e ≡ n / e
 quotient_same e n some apart =
     elim (quotient_cases e n some) [
       | inl same ↦ same
@@ -145,11 +145,11 @@ same_controls rules first rest m some within =
     (λ k above below. control_at-more rules first rest k some above
     (smaller_product k m rules.every (length first) (omega arith) within))
 
-length-push : (first : List Served) (request : Served) → length (first ++ request ∷ []) ≡ length first + 1
+pub length-push : (first : List Served) (request : Served) → length (first ++ request ∷ []) ≡ length first + 1
 length-push first request = length-append first (request ∷ [])
 
 -- no control is due
-controls-same : (rules : PolicyNumbers) (first : List Served) (request : Served) → 0 < rules.every
+pub controls-same : (rules : PolicyNumbers) (first : List Served) (request : Served) → 0 < rules.every
     → ((length first + 1) % rules.every ≡ 0 → ⊥) → controls_by rules (first ++ request ∷ []) ≡ controls_by rules first
 controls-same rules first request some apart =
     rw (length-push first request, quotient_same rules.every (length first) some apart)
@@ -172,6 +172,14 @@ controls-due rules first request some due =
     ) refl
 
 -- ---- the control that is due, from the one before it
+
+pub last_rate-push : (rules : PolicyNumbers) (controls : List Control) (control : Control)
+    → control.rate ≡ last_rate rules (controls ++ control ∷ [])
+last_rate-push rules controls control =
+    let place : length (controls ++ control ∷ []) - 1 ≡ length controls =
+    omega (arith, length-append controls (control ∷ [])) in
+    let last : last_item (controls ++ control ∷ []) ≡ Some control = slice_get-last controls control _ place in
+    rw last refl
 
 control-last : (rules : PolicyNumbers) (requests : List Served) (m : ℕ)
     → last_item (map (control_at rules requests) (range_with_len 1 (suc m))) ≡ Some (control_at rules requests (suc m))

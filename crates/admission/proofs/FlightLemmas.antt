@@ -1,5 +1,5 @@
 -- The responses in a heap, the first to be complete on top.
-use Rattle.std.proofs.Common.{◌≡◌, ℕ, zero, suc, ◌+◌, ◌<◌, ◌≤◌, List, [], ◌∷◌, length, drop, map, true, false, refl, sym, ◌∙◌, ap, arith, rules, Some, slice_get, inl, inr, if◌then◌else◌}
+use Rattle.std.proofs.Common.{◌≡◌, ℕ, zero, suc, ◌+◌, ◌<◌, ◌≤◌, List, [], ◌∷◌, ◌++◌, append_assoc, length, drop, map, true, false, refl, sym, ◌∙◌, ap, arith, rules, Some, slice_get, inl, inr, if◌then◌else◌}
 use Rattle.std.specs.Prelude.{◌⊎◌, None, Option, IfSome, IfNone}
 use Rattle.std.specs.declared.cmp.Ordering.{Ordering}
 use Rattle.std.specs.declared.cmp.Ordering.TheVariants.{Less, Equal, Greater}
@@ -10,11 +10,11 @@ use Rattle.std.specs.List as list
 use Rattle.std.specs.declared.cmp.Reverse.{Reverse}
 use Rattle.std.proofs.lemmas.Bool.{cases_Bool, cases_lt, cases_order, lt-ltb, le-ltb, eq-eqb, ne_eqb}
 use Rattle.std.proofs.lemmas.List.Edits.{swap_is}
-use Rattle.std.proofs.lemmas.List.Sorted.{IsPermutation-keeps, IsPermutation-map}
+use Rattle.std.proofs.lemmas.List.Sorted.{length_permutation, IsPermutation-keeps, IsPermutation-map, IsPermutation-refl, IsPermutation-sym, IsPermutation-append_right, IsPermutation-middle}
 use lib.ListN.{get_or, set}
 use Rattle.admission.specs.declared.in_flight.Response.{Response}
-use Rattle.admission.specs.Standing.{Due, completions, AllFrom, insert_due, with_response}
-use Rattle.admission.specs.InFlight.{response_cmp, is_after, insert_response, in_order, responses_of, due_of, flight_of, AllNumbered, IsFlight}
+use Rattle.admission.specs.Standing.{Due, Flight, completions, AllFrom, insert_due, with_response}
+use Rattle.admission.specs.InFlight.{response_cmp, is_after, insert_response, in_order, responses_of, due_of, flight_of, AllNumbered, AllAfter, IsQueue, IsFlight, Leads, Follows}
 
 -- ---- the order
 
@@ -278,17 +278,18 @@ in_order-permutation xs ys moved =
     let d : Response = record { completion = 0; number = 0; sample = 0 } in
     IsPermutation-keeps xs (λ l. in_order l ≡ in_order xs) refl (λ l i j hi hj h. in_order-swap l d i j hi hj ∙ h) ys moved
 
-heap-permutation : (xs ys : List (Reverse Response)) → IsPermutation xs ys
-    → in_order (responses_of ys) ≡ in_order (responses_of xs)
-heap-permutation xs ys moved =
-    in_order-permutation (responses_of xs) (responses_of ys) (IsPermutation-map (λ (r : Reverse Response). r.0) xs ys moved)
+heap-permutation : (queue : List Response) (xs ys : List (Reverse Response)) → IsPermutation xs ys
+    → in_order (queue ++ responses_of ys) ≡ in_order (queue ++ responses_of xs)
+heap-permutation queue xs ys moved =
+    in_order-permutation (queue ++ responses_of xs) (queue ++ responses_of ys)
+    (IsPermutation-append_right queue (responses_of xs) (responses_of ys) (IsPermutation-map (λ (r : Reverse Response). r.0) xs ys moved))
+
+order-middle : (x : Response) (xs ys : List Response) → in_order (xs ++ x ∷ ys) ≡ in_order (x ∷ (xs ++ ys))
+order-middle x xs ys =
+    in_order-permutation (x ∷ (xs ++ ys)) (xs ++ x ∷ ys)
+    (IsPermutation-sym (xs ++ x ∷ ys) (x ∷ (xs ++ ys)) (IsPermutation-middle xs x ys))
 
 -- ---- the first of them
-
--- none of these comes before x
-unfoldable AllAfter : Response → List Response → Type 0
-AllAfter x [] = Unit {0}
-AllAfter x (y ∷ ys) = (is_after x y ≡ false) × AllAfter x ys
 
 all-bound : (x : Reverse Response) (items : List (Reverse Response))
     → IsUpperBound (λ (x y : Reverse Response). response_cmp y.0 x.0) x items → AllAfter x.0 (responses_of items)
@@ -375,98 +376,327 @@ due-insert x (y ∷ ys) all =
           (ap (λ (ds : List Due). due_of y ∷ ds) (due-insert x ys all.1))
     ]
 
+all-append : (x : Response) (xs ys : List Response) → AllAfter x xs → AllAfter x ys → AllAfter x (xs ++ ys)
+unfolding AllAfter
+all-append x [] ys first more = more
+all-append x (y ∷ xs) ys first more = (first.0, all-append x xs ys first.1 more)
+
+all-then : (x y : Response) (ys : List Response) → is_after x y ≡ false → AllAfter y ys → AllAfter x ys
+unfolding AllAfter
+all-then x y [] upto all = tt
+all-then x y (z ∷ zs) upto all = (after-then x y z upto all.0, all-then x y zs upto all.1)
+
+-- ---- the queue
+
+queue_more : (n latest : ℕ) (xs : List Response) → IsQueue n latest xs → IsQueue (n + 1) latest xs
+unfolding IsQueue
+queue_more n latest [] queue = tt
+queue_more n latest (x ∷ xs) queue = (omega (arith, queue.0), queue.1, queue.2, queue_more n latest xs queue.3)
+
+queue_push : (latest : ℕ) (y : Response) (xs : List Response) → IsQueue y.number latest xs → latest ≤ y.completion
+    → IsQueue (y.number + 1) y.completion (xs ++ y ∷ [])
+unfolding IsQueue AllAfter
+queue_push latest y [] queue later = (omega arith, omega arith, tt, tt)
+queue_push latest y (x ∷ xs) queue later =
+    let upto : is_after x y ≡ false = after-none x y
+    (λ below. elim below [
+      | inl b ↦ omega (arith, b, queue.1, later)
+      | inr b ↦ elim b.1 [ inl c ↦ omega (arith, c, queue.0) | inr c ↦ omega (arith, c.0, queue.0) ]
+    ]) in (
+      omega (arith, queue.0),
+      omega (arith, queue.1, later),
+      all-append x xs (y ∷ []) queue.2 (upto, tt),
+      queue_push latest y xs queue.3 later,
+    )
+
+queue_rest : (n latest : ℕ) (x : Response) (xs : List Response) → IsQueue n latest (x ∷ xs) → IsQueue n latest xs
+unfolding IsQueue
+queue_rest n latest x xs queue = queue.3
+
+queue_after : (n latest : ℕ) (x : Response) (xs : List Response) → IsQueue n latest (x ∷ xs) → AllAfter x xs
+unfolding IsQueue
+queue_after n latest x xs queue = queue.2
+
+pub queue_none : (n latest : ℕ) (queue : List Response) → queue ≡ [] → IsQueue n latest queue
+unfolding IsQueue
+queue_none n latest queue none = rw none tt
+
 -- ---- what a contract sees
 
 abbrev pub HasTop : Reverse Response → List (Reverse Response) → Type 0
 HasTop x items = IsUpperBound (λ (x y : Reverse Response). response_cmp y.0 x.0) x items
 
-order_parts : (x : Reverse Response) (old new : List (Reverse Response)) → IsPermutation old (x ∷ new) → HasTop x new
-    → in_order (responses_of old) ≡ x.0 ∷ in_order (responses_of new)
-order_parts x old new moved bound =
-    sym (heap-permutation old (x ∷ new) moved) ∙ first-order x.0 (responses_of new) (all-bound x new bound)
-
-pub next_is : (x : Reverse Response) (items : List (Reverse Response)) → 0 < length items → x ≡ get_or items 0 x → HasTop x items
-    → Some (due_of x.0) ≡ slice_get (map due_of (in_order (responses_of items))) 0
-next_is x [] some at bound = absurd (omega arith)
-next_is x (y ∷ items) some at bound =
-    let order : in_order (x.0 ∷ responses_of items) ≡ x.0 ∷ in_order (responses_of items) =
-    first-order x.0 (responses_of items) (all-bound x items bound.1) in
-    sym (ap (λ (rs : List Response). slice_get (map due_of rs) 0)
-    (ap (λ (r : Reverse Response). in_order (r.0 ∷ responses_of items)) (sym at) ∙ order))
-
-pub next_least : (x : Reverse Response) (items : List (Reverse Response)) → HasTop x items
-    → AllFrom x.0.completion (completions (map due_of (in_order (responses_of items))))
-next_least x items bound =
-    from-after x.0 (in_order (responses_of items)) (all-order x.0 (responses_of items) (all-bound x items bound))
-
-none_of : (items : List (Reverse Response)) → length items ≡ 0 → in_order (responses_of items) ≡ []
-none_of [] none = order-none
-none_of (x ∷ items) none = absurd (omega (arith, none))
-
-pub next_none : (items : List (Reverse Response)) → length items ≡ 0
-    → (let none : Option Due = None in none) ≡ slice_get (map due_of (in_order (responses_of items))) 0
-next_none items none = sym (ap (λ (rs : List Response). slice_get (map due_of rs) 0) (none_of items none))
-
-pub flight_none : (items : List (Reverse Response)) → items ≡ [] → flight_of 0 items ≡ record { admitted = 0; responses = [] }
-flight_none items none =
-    ap (λ (is : List (Reverse Response)). flight_of 0 is) none ∙ ap (λ (rs : List Response). record { admitted = 0; responses = map due_of rs }) order-none
-
-pub numbers_none : (items : List (Reverse Response)) → items ≡ [] → AllNumbered 0 (in_order (responses_of items))
-unfolding AllNumbered in_order
-numbers_none items none = rw none tt
-
-flight_taken : (admitted : ℕ) (x : Reverse Response) (old new : List (Reverse Response)) → IsPermutation old (x ∷ new) → HasTop x new
-    → flight_of admitted new ≡ record { admitted = admitted; responses = drop 1 (flight_of admitted old).responses }
-flight_taken admitted x old new moved bound =
-    sym (ap (λ (rs : List Response). record { admitted = admitted; responses = drop 1 (map due_of rs) }) (order_parts x old new moved bound))
-
-numbers_taken : (admitted : ℕ) (x : Reverse Response) (old new : List (Reverse Response)) → IsPermutation old (x ∷ new) → HasTop x new
-    → AllNumbered admitted (in_order (responses_of old)) → AllNumbered admitted (in_order (responses_of new))
-numbers_taken admitted x old new moved bound numbers =
-    numbered-rest admitted x.0 (in_order (responses_of new)) (rw (order_parts x old new moved bound) at numbers)
-
-flight_left : (admitted : ℕ) (old new : List (Reverse Response)) → new ≡ old → length old ≡ 0
-    → flight_of admitted new ≡ record { admitted = admitted; responses = drop 1 (flight_of admitted old).responses }
-flight_left admitted old new same none =
-    ap (λ (rs : List Response). record { admitted = admitted; responses = map due_of rs })
-    (ap (λ (is : List (Reverse Response)). in_order (responses_of is)) same ∙ none_of old none)
-    ∙ sym (ap (λ (rs : List Response). record { admitted = admitted; responses = drop 1 (map due_of rs) }) (none_of old none))
-
--- what `pop` left
 abbrev pub Order : List (Reverse Response) → Type 0
 Order items = IsHeap (λ (x y : Reverse Response). response_cmp y.0 x.0) items
 
-pub flight_popped : (admitted : ℕ) (result : Option (Reverse Response)) (old new : List (Reverse Response))
-    → IfSome result (λ x. IsPermutation old (x ∷ new)) → IfSome result (λ x. Order old → HasTop x new)
-    → IfNone result (new ≡ old) → IfNone result (length old ≡ 0) → Order old
-    → flight_of admitted new ≡ record { admitted = admitted; responses = drop 1 (flight_of admitted old).responses }
-flight_popped admitted (Some x) old new moved bound same none order = flight_taken admitted x old new moved (bound order)
-flight_popped admitted None old new moved bound same none order = flight_left admitted old new same none
+top_at : (items : List (Reverse Response)) (x : Reverse Response) → 0 < length items → x ≡ get_or items 0 x → slice_get items 0 ≡ Some x
+top_at [] x some at = absurd (omega arith)
+top_at (y ∷ items) x some at = ap (λ (r : Reverse Response). Some r) (sym at)
 
-pub is_popped : (admitted : ℕ) (result : Option (Reverse Response)) (old new : List (Reverse Response))
+queue_parts : (queue : List Response) (x : Response) → 0 < length queue → x ≡ get_or queue 0 x → queue ≡ x ∷ drop 1 queue
+queue_parts [] x some at = absurd (omega arith)
+queue_parts (y ∷ queue) x some at = ap (λ (r : Response). r ∷ queue) (sym at)
+
+-- which of the two comes first
+pub leads_alone : (queue : List Response) (items : List (Reverse Response)) (x : Response) → 0 < length queue → x ≡ get_or queue 0 x
+    → length items ≡ 0 → Leads queue items x
+unfolding AllAfter
+leads_alone queue [] x some at none = (drop 1 queue, queue_parts queue x some at, tt)
+leads_alone queue (y ∷ items) x some at none = absurd (omega (arith, none))
+
+pub leads_top : (queue : List Response) (items : List (Reverse Response)) (x : Response) (top : Reverse Response) → 0 < length queue
+    → x ≡ get_or queue 0 x → HasTop top items → is_after top.0 x ≡ true → Leads queue items x
+leads_top queue items x top some at bound before = (
+  drop 1 queue,
+  queue_parts queue x some at,
+  all-then x top.0 (responses_of items) (after-back top.0 x before) (all-bound top items bound),
+)
+
+pub follows_none : (queue : List Response) (items : List (Reverse Response)) → length queue ≡ 0 → Follows queue items
+follows_none queue items none x rest is =
+    let long : length queue ≡ length (x ∷ rest) = ap (λ (rs : List Response). length rs) is in absurd (omega (arith, none, long))
+
+same_first : (x y : Response) (xs ys : List Response) → x ∷ xs ≡ y ∷ ys → x ≡ y
+same_first x y xs ys same = cc
+
+pub follows_top : (queue : List Response) (items : List (Reverse Response)) (x : Response) (top : Reverse Response) → 0 < length queue
+    → x ≡ get_or queue 0 x → 0 < length items → top ≡ get_or items 0 top → is_after top.0 x ≡ false → Follows queue items
+follows_top queue items x top some at any there upto y rest is =
+    let same : x ≡ y = same_first x y (drop 1 queue) rest (sym (queue_parts queue x some at) ∙ is) in
+    (top, top_at items top any there, rw (← same) upto)
+
+same_top : (x y : Reverse Response) → Some x ≡ Some y → x ≡ y
+same_top x y same = cc
+
+follows_all : (n latest : ℕ) (x : Reverse Response) (queue : List Response) (items : List (Reverse Response)) → IsQueue n latest queue
+    → Follows queue items → slice_get items 0 ≡ Some x → AllAfter x.0 queue
+unfolding AllAfter
+follows_all n latest x [] items queue follows at = tt
+follows_all n latest x (y ∷ rest) items queue follows at =
+    let top = follows y rest refl in
+    let same : top.0 ≡ x = same_top top.0 x (sym top.1 ∙ at) in
+    let upto : is_after x.0 y ≡ false = rw (← same) top.2 in
+    (upto, all-then x.0 y rest upto (queue_after n latest y rest queue))
+
+none_left : (queue : List Response) (items : List (Reverse Response)) → Follows queue items → length items ≡ 0
+    → in_order (queue ++ responses_of items) ≡ []
+none_left [] [] follows none = order-none
+none_left queue (x ∷ items) follows none = absurd (omega (arith, none))
+none_left (y ∷ rest) [] follows none =
+    let top = follows y rest refl in
+    let at : slice_get [] 0 ≡ Some top.0 = top.1 in absurd (cc)
+
+-- the first of all of them
+record IsFirst (x : Response) (all rest : List Response) : Type 0 where
+  pub order : in_order all ≡ x ∷ in_order rest
+  pub after : AllAfter x rest
+
+first_queued : (n latest : ℕ) (x : Response) (queue rest : List Response) (items : List (Reverse Response)) → IsQueue n latest queue
+    → queue ≡ x ∷ rest → AllAfter x (responses_of items) → IsFirst x (queue ++ responses_of items) (rest ++ responses_of items)
+first_queued n latest x queue rest items queued is more =
+    let after : AllAfter x (rest ++ responses_of items) =
+    all-append x rest (responses_of items) (queue_after n latest x rest (rw is at queued)) more in
+    record { order = rw is (first-order x (rest ++ responses_of items) after); after = after }
+
+first_popped : (x : Reverse Response) (queue : List Response) (old new : List (Reverse Response)) → IsPermutation old (x ∷ new)
+    → HasTop x new → AllAfter x.0 queue → IsFirst x.0 (queue ++ responses_of old) (queue ++ responses_of new)
+first_popped x queue old new moved bound behind =
+    let after : AllAfter x.0 (queue ++ responses_of new) =
+    all-append x.0 queue (responses_of new) behind (all-bound x new bound) in
+    record {
+      order = sym (heap-permutation queue old (x ∷ new) moved) ∙ order-middle x.0 queue (responses_of new)
+          ∙ first-order x.0 (queue ++ responses_of new) after;
+      after = after;
+    }
+
+first_on_top : (x : Reverse Response) (queue : List Response) (items : List (Reverse Response)) → 0 < length items
+    → x ≡ get_or items 0 x → HasTop x items → AllAfter x.0 queue
+    → IsFirst x.0 (queue ++ responses_of items) (queue ++ responses_of (drop 1 items))
+first_on_top x queue [] some at bound behind = absurd (omega arith)
+first_on_top x queue (y ∷ items) some at bound behind =
+    let all : HasTop x items = bound.1 in
+    rw (← at) (first_popped x queue (x ∷ items) items (IsPermutation-refl (x ∷ items)) all behind)
+
+is_next : (x : Response) (all rest : List Response) → IsFirst x all rest → Some (due_of x) ≡ slice_get (map due_of (in_order all)) 0
+is_next x all rest first = rw first.order refl
+
+is_least : (x : Response) (all rest : List Response) → IsFirst x all rest
+    → AllFrom x.completion (completions (map due_of (in_order all)))
+unfolding AllFrom
+is_least x all rest first =
+    rw first.order (omega arith, from-after x (in_order rest) (all-order x rest first.after))
+
+abbrev Holds : ℕ → List Due → Flight
+Holds admitted responses = record { admitted = admitted; responses = responses }
+
+flight_rest : (admitted : ℕ) (x : Response) (all rest : List Response) → IsFirst x all rest
+    → Holds admitted (map due_of (in_order rest)) ≡ Holds admitted (drop 1 (map due_of (in_order all)))
+flight_rest admitted x all rest first = rw first.order refl
+
+numbers_rest : (n : ℕ) (x : Response) (all rest : List Response) → IsFirst x all rest → AllNumbered n (in_order all)
+    → AllNumbered n (in_order rest)
+numbers_rest n x all rest first numbers = numbered-rest n x (in_order rest) (rw first.order at numbers)
+
+-- of the queue
+pub next_queued : (n latest : ℕ) (x : Response) (queue : List Response) (items : List (Reverse Response)) → IsFlight n latest queue items
+    → Leads queue items x → Some (due_of x) ≡ slice_get (flight_of n queue items).responses 0
+next_queued n latest x queue items flight leads =
+    is_next x (queue ++ responses_of items) (leads.0 ++ responses_of items)
+    (first_queued n latest x queue leads.0 items flight.queued leads.1 leads.2)
+
+pub least_queued : (n latest : ℕ) (x : Response) (queue : List Response) (items : List (Reverse Response)) → IsFlight n latest queue items
+    → Leads queue items x → AllFrom x.completion (completions (flight_of n queue items).responses)
+least_queued n latest x queue items flight leads =
+    is_least x (queue ++ responses_of items) (leads.0 ++ responses_of items)
+    (first_queued n latest x queue leads.0 items flight.queued leads.1 leads.2)
+
+pub flight_queued : (n latest : ℕ) (x : Response) (queue rest : List Response) (items : List (Reverse Response))
+    → IsFlight n latest queue items → Leads queue items x → rest ≡ drop 1 queue
+    → flight_of n rest items ≡ record { admitted = n; responses = drop 1 (flight_of n queue items).responses }
+flight_queued n latest x queue rest items flight leads is =
+    let left : rest ≡ leads.0 = is ∙ ap (λ (rs : List Response). drop 1 rs) leads.1 in
+    rw left
+    (flight_rest n x (queue ++ responses_of items) (leads.0 ++ responses_of items)
+    (first_queued n latest x queue leads.0 items flight.queued leads.1 leads.2))
+
+pub is_queued : (n latest : ℕ) (x : Response) (queue rest : List Response) (items : List (Reverse Response))
+    → IsFlight n latest queue items → Leads queue items x → rest ≡ drop 1 queue → IsFlight n latest rest items
+is_queued n latest x queue rest items flight leads is =
+    let left : rest ≡ leads.0 = is ∙ ap (λ (rs : List Response). drop 1 rs) leads.1 in
+    record {
+      order = flight.order;
+      queued = rw left (queue_rest n latest x leads.0 (rw leads.1 at flight.queued));
+      numbers = rw left
+          (numbers_rest n x (queue ++ responses_of items) (leads.0 ++ responses_of items)
+          (first_queued n latest x queue leads.0 items flight.queued leads.1 leads.2) flight.numbers);
+    }
+
+-- of the heap
+pub next_on_top : (n latest : ℕ) (x : Reverse Response) (queue : List Response) (items : List (Reverse Response))
+    → IsFlight n latest queue items → Follows queue items → 0 < length items → x ≡ get_or items 0 x → HasTop x items
+    → Some (due_of x.0) ≡ slice_get (flight_of n queue items).responses 0
+next_on_top n latest x queue items flight follows some at bound =
+    is_next x.0 (queue ++ responses_of items) (queue ++ responses_of (drop 1 items))
+    (first_on_top x queue items some at bound (follows_all n latest x queue items flight.queued follows (top_at items x some at)))
+
+pub least_on_top : (n latest : ℕ) (x : Reverse Response) (queue : List Response) (items : List (Reverse Response))
+    → IsFlight n latest queue items → Follows queue items → 0 < length items → x ≡ get_or items 0 x → HasTop x items
+    → AllFrom x.0.completion (completions (flight_of n queue items).responses)
+least_on_top n latest x queue items flight follows some at bound =
+    is_least x.0 (queue ++ responses_of items) (queue ++ responses_of (drop 1 items))
+    (first_on_top x queue items some at bound (follows_all n latest x queue items flight.queued follows (top_at items x some at)))
+
+pub next_none : (n : ℕ) (queue : List Response) (items : List (Reverse Response)) → Follows queue items → length items ≡ 0
+    → (let none : Option Due = None in none) ≡ slice_get (flight_of n queue items).responses 0
+next_none n queue items follows none =
+    sym (ap (λ (rs : List Response). slice_get (map due_of rs) 0) (none_left queue items follows none))
+
+first_of_popped : (n latest : ℕ) (x : Reverse Response) (queue : List Response) (old new : List (Reverse Response))
+    → IsFlight n latest queue old → Follows queue old → x ≡ get_or old 0 x → IsPermutation old (x ∷ new) → HasTop x new
+    → IsFirst x.0 (queue ++ responses_of old) (queue ++ responses_of new)
+first_of_popped n latest x queue old new flight follows at moved bound =
+    let long : length (x ∷ new) ≡ length old = length_permutation old (x ∷ new) moved in
+    let some : 0 < length old = omega (arith, long) in
+    first_popped x queue old new moved bound (follows_all n latest x queue old flight.queued follows (top_at old x some at))
+
+pub flight_popped : (n latest : ℕ) (result : Option (Reverse Response)) (queue : List Response) (old new : List (Reverse Response))
+    → IsFlight n latest queue old → Follows queue old → IfSome result (λ x. x ≡ get_or old 0 x)
     → IfSome result (λ x. IsPermutation old (x ∷ new)) → IfSome result (λ x. Order old → HasTop x new)
-    → IfSome result (λ x. Order old → Order new) → IfNone result (new ≡ old) → IsFlight admitted old → IsFlight admitted new
-is_popped admitted (Some x) old new moved bound heap same flight = record {
+    → IfNone result (new ≡ old) → IfNone result (length old ≡ 0)
+    → flight_of n queue new ≡ record { admitted = n; responses = drop 1 (flight_of n queue old).responses }
+flight_popped n latest (Some x) queue old new flight follows at moved bound same none =
+    flight_rest n x.0 (queue ++ responses_of old) (queue ++ responses_of new)
+    (first_of_popped n latest x queue old new flight follows at moved (bound flight.order))
+flight_popped n latest None queue old new flight follows at moved bound same none =
+    rw same (rw (none_left queue old follows none) refl)
+
+pub is_popped : (n latest : ℕ) (result : Option (Reverse Response)) (queue : List Response) (old new : List (Reverse Response))
+    → IsFlight n latest queue old → Follows queue old → IfSome result (λ x. x ≡ get_or old 0 x)
+    → IfSome result (λ x. IsPermutation old (x ∷ new)) → IfSome result (λ x. Order old → HasTop x new)
+    → IfSome result (λ x. Order old → Order new) → IfNone result (new ≡ old) → IsFlight n latest queue new
+is_popped n latest (Some x) queue old new flight follows at moved bound heap same = record {
   order = heap flight.order;
-  numbers = numbers_taken admitted x old new moved (bound flight.order) flight.numbers;
+  queued = flight.queued;
+  numbers = numbers_rest n x.0 (queue ++ responses_of old) (queue ++ responses_of new)
+      (first_of_popped n latest x queue old new flight follows at moved (bound flight.order)) flight.numbers;
 }
-is_popped admitted None old new moved bound heap same flight = rw same flight
+is_popped n latest None queue old new flight follows at moved bound heap same = rw same flight
 
--- one more
-order_more : (x : Response) (old new : List (Reverse Response)) → IsPermutation (record { 0 = x } ∷ old) new
-    → in_order (responses_of new) ≡ insert_response x (in_order (responses_of old))
-order_more x old new moved = heap-permutation (record { 0 = x } ∷ old) new moved ∙ order-cons x (responses_of old)
+-- ---- none
 
-pub flight_more : (x : Response) (old new : List (Reverse Response)) → IsPermutation (record { 0 = x } ∷ old) new
-    → AllNumbered x.number (in_order (responses_of old))
-    → flight_of (x.number + 1) new ≡ with_response (flight_of x.number old) (due_of x)
-flight_more x old new moved numbers =
+order_start : (queue : List Response) (items : List (Reverse Response)) → queue ≡ [] → items ≡ []
+    → in_order (queue ++ responses_of items) ≡ []
+order_start queue items free none = rw (free, none) order-none
+
+pub flight_none : (queue : List Response) (items : List (Reverse Response)) → queue ≡ [] → items ≡ []
+    → flight_of 0 queue items ≡ record { admitted = 0; responses = [] }
+flight_none queue items free none =
+    ap (λ (rs : List Response). record { admitted = 0; responses = map due_of rs }) (order_start queue items free none)
+
+pub is_none : (queue : List Response) (items : List (Reverse Response)) → queue ≡ [] → items ≡ [] → Order items → IsFlight 0 0 queue items
+unfolding AllNumbered
+is_none queue items free none order = record {
+  order = order;
+  queued = queue_none 0 0 queue free;
+  numbers = rw (order_start queue items free none) tt;
+}
+
+-- ---- one more
+
+order_queued : (x : Response) (queue : List Response) (hs : List Response)
+    → in_order ((queue ++ x ∷ []) ++ hs) ≡ insert_response x (in_order (queue ++ hs))
+order_queued x queue hs =
+    ap (λ (rs : List Response). in_order rs) (append_assoc queue (x ∷ []) hs) ∙ order-middle x queue hs ∙ order-cons x (queue ++ hs)
+
+order_pushed : (x : Response) (queue : List Response) (old new : List (Reverse Response)) → IsPermutation (record { 0 = x } ∷ old) new
+    → in_order (queue ++ responses_of new) ≡ insert_response x (in_order (queue ++ responses_of old))
+order_pushed x queue old new moved =
+    heap-permutation queue (record { 0 = x } ∷ old) new moved ∙ order-middle x queue (responses_of old)
+    ∙ order-cons x (queue ++ responses_of old)
+
+flight_more : (x : Response) (all more : List Response) → in_order more ≡ insert_response x (in_order all) → AllNumbered x.number (in_order all)
+    → record { admitted = x.number + 1; responses = map due_of (in_order more) }
+    ≡ with_response (record { admitted = x.number; responses = map due_of (in_order all) }) (due_of x)
+flight_more x all more is numbers =
     ap (λ (ds : List Due). record { admitted = x.number + 1; responses = ds })
-    (ap (λ (rs : List Response). map due_of rs) (order_more x old new moved) ∙ due-insert x (in_order (responses_of old)) numbers)
+    (ap (λ (rs : List Response). map due_of rs) is ∙ due-insert x (in_order all) numbers)
 
-pub numbers_more : (x : Response) (old new : List (Reverse Response)) → IsPermutation (record { 0 = x } ∷ old) new
-    → AllNumbered x.number (in_order (responses_of old)) → AllNumbered (x.number + 1) (in_order (responses_of new))
-numbers_more x old new moved numbers =
-    rw (order_more x old new moved)
-    (numbered-insert (x.number + 1) x (in_order (responses_of old)) (omega arith)
-    (numbered-higher x.number (x.number + 1) (in_order (responses_of old)) (omega arith) numbers))
+numbers_more : (x : Response) (all more : List Response) → in_order more ≡ insert_response x (in_order all)
+    → AllNumbered x.number (in_order all) → AllNumbered (x.number + 1) (in_order more)
+numbers_more x all more is numbers =
+    rw is
+    (numbered-insert (x.number + 1) x (in_order all) (omega arith)
+    (numbered-higher x.number (x.number + 1) (in_order all) (omega arith) numbers))
+
+-- behind the queue
+pub flight_behind : (latest : ℕ) (x : Response) (old new : List Response) (items : List (Reverse Response))
+    → IsFlight x.number latest old items → new ≡ old ++ x ∷ []
+    → flight_of (x.number + 1) new items ≡ with_response (flight_of x.number old items) (due_of x)
+flight_behind latest x old new items flight is =
+    flight_more x (old ++ responses_of items) (new ++ responses_of items) (rw is (order_queued x old (responses_of items))) flight.numbers
+
+pub is_behind : (latest : ℕ) (x : Response) (old new : List Response) (items : List (Reverse Response))
+    → IsFlight x.number latest old items → latest ≤ x.completion → new ≡ old ++ x ∷ []
+    → IsFlight (x.number + 1) x.completion new items
+is_behind latest x old new items flight later is = record {
+  order = flight.order;
+  queued = rw is (queue_push latest x old flight.queued later);
+  numbers = numbers_more x (old ++ responses_of items) (new ++ responses_of items)
+      (rw is (order_queued x old (responses_of items))) flight.numbers;
+}
+
+-- into the heap
+pub flight_pushed : (latest : ℕ) (x : Response) (queue : List Response) (old new : List (Reverse Response))
+    → IsFlight x.number latest queue old → IsPermutation (record { 0 = x } ∷ old) new
+    → flight_of (x.number + 1) queue new ≡ with_response (flight_of x.number queue old) (due_of x)
+flight_pushed latest x queue old new flight moved =
+    flight_more x (queue ++ responses_of old) (queue ++ responses_of new) (order_pushed x queue old new moved) flight.numbers
+
+pub is_pushed : (latest : ℕ) (x : Response) (queue : List Response) (old new : List (Reverse Response))
+    → IsFlight x.number latest queue old → IsPermutation (record { 0 = x } ∷ old) new → (Order old → Order new)
+    → IsFlight (x.number + 1) latest queue new
+is_pushed latest x queue old new flight moved heap = record {
+  order = heap flight.order;
+  queued = queue_more x.number latest queue flight.queued;
+  numbers = numbers_more x (queue ++ responses_of old) (queue ++ responses_of new) (order_pushed x queue old new moved) flight.numbers;
+}

@@ -11,12 +11,13 @@ use Rattle.admission.specs.declared.policy.PolicyNumbers.{PolicyNumbers}
 use Rattle.admission.specs.Reference.{served, samples, rate_after, control_at, least_balance}
 use Rattle.admission.specs.Standing.{Window, window_of, AllFrom, TierStanding, RiseWithin, AllRates, IsSoundTier, IsShare}
 use Rattle.admission.specs.After.{AllCovered, AllUpTo, TierFits}
-use Rattle.admission.proofs.CompletionLemmas.{by_completion-none}
+use Rattle.admission.proofs.CompletionLemmas.{by_completion-none, upto-take}
 
 abbrev pub start : PolicyNumbers → bucket.Standing → Window → TierStanding
 start rules b window = record {
   rules = rules;
   bucket = b;
+  clock = 0;
   flight = record { admitted = 0; responses = [] };
   completed = 0;
   rejected = 0;
@@ -24,21 +25,22 @@ start rules b window = record {
   controls = [];
 }
 
-pub start_sound : (rules : PolicyNumbers) (b : bucket.Standing) (window : Window) → 1 ≤ rules.every
+pub start_sound : (rules : PolicyNumbers) (b : bucket.Standing) (window : Window) → 1 ≤ rules.every → b.tick ≡ 0
     → window ≡ window_of rules.window [] → IsSoundTier (start rules b window)
 unfolding AllRates AllFrom RiseWithin
-start_sound rules b window every is = record {
+start_sound rules b window every tick is = record {
   every = every;
   size = ap (λ (w : Window). w.size) is;
   count = omega arith;
   later = tt;
+  behind = omega (arith, tick);
   rising = tt;
   rates = tt;
 }
 
-pub start_share : (rules : PolicyNumbers) (b : bucket.Standing) (window : Window) → b.tick ≡ 0 → IsShare 0 0 0 (start rules b window)
+pub start_share : (rules : PolicyNumbers) (b : bucket.Standing) (window : Window) → IsShare 0 0 0 (start rules b window)
 unfolding AllFrom
-start_share rules b window clock = record { admitted = omega arith; rejected = omega arith; clock = omega arith; complete = tt }
+start_share rules b window = record { admitted = omega arith; rejected = omega arith; clock = omega arith; complete = tt }
 
 pub start_fits : (rules : PolicyNumbers) (b : bucket.Standing) (window : Window) → BucketAfter (made rules.depth rules.rate) b
     → window ≡ window_of rules.window [] → TierFits [] (start rules b window)
@@ -49,6 +51,7 @@ start_fits rules b window fits is = record {
   taken = record {
     order = by_completion-none;
     past = tt;
+    controlled = upto-take _ _ [] tt;
     completed = refl;
     window = is;
     controls = sym (ap (λ n. map (control_at rules []) (range_with_len 1 n)) (zero-div rules.every));

@@ -1,5 +1,5 @@
 -- One more offer of a tier: what is decided, and how the tier stands then.
-use Rattle.std.proofs.Common.{◌≡◌, ℕ, ◌+◌, ◌-◌, ◌*◌, ◌<◌, ◌≤◌, min, max, List, [], ◌∷◌, ◌++◌, length, Bool, true, false, refl, sym, ◌∙◌, ap, arith, append-nil, length-append, inl, inr, if◌then◌else◌}
+use Rattle.std.proofs.Common.{◌≡◌, ℕ, ◌+◌, ◌-◌, ◌*◌, ◌<◌, ◌≤◌, min, max, List, [], ◌∷◌, ◌++◌, length, map, Bool, true, false, refl, sym, ◌∙◌, ap, arith, append-nil, length-append, inl, inr, if◌then◌else◌}
 use Rattle.std.specs.Prelude.{◌↔◌, IsTrue, count_by, cond}
 use Rattle.std.proofs.lemmas.Bool.{le-leb, lt-leb, cases_lt}
 use Rattle.std.proofs.lemmas.List.Sums.{sum_by_push}
@@ -15,7 +15,7 @@ use Rattle.admission.specs.Standing.{TierStanding, AllFrom, completions, insert_
 use Rattle.admission.specs.Running.{when_rejected, when_admitted, decision_after}
 use Rattle.admission.specs.After.{due, BucketFits, AreTakenIn, TierFits}
 use Rattle.admission.proofs.CreditLemmas.{least_balance-push, covered-push}
-use Rattle.admission.proofs.CompletionLemmas.{insert_behind, by_completion-push, behind-first, due-behind}
+use Rattle.admission.proofs.CompletionLemmas.{insert_behind, by_completion-push, behind-first, due-behind, upto-higher}
 use Rattle.admission.proofs.HeapLemmas.{from-lower}
 use Rattle.admission.proofs.TakenLemmas.{Does, within_depth, rate_before, rate_now, fits_later}
 use Rattle.admission.proofs.RequestLemmas.{served-push}
@@ -69,9 +69,9 @@ rejected_push : (past : List Decided) (r : Decided)
 rejected_push past r = sum_by_push (λ r. cond (is_rejected r.decision) 1 0) past r
 
 pub tier_rejected : (t : TierStanding) (next : bucket.Standing) (past : List Decided) (offer : Offer)
-    → TierFits past t → t.bucket.tick ≡ offer.tick → Does t.bucket (TryTake false) next
-    → TierFits (past ++ record { offer = offer; decision = Rejected } ∷ []) (when_rejected t next)
-tier_rejected t next past offer fits at takes =
+    → TierFits past t → t.bucket.tick ≡ offer.tick → t.clock ≤ offer.tick → Does t.bucket (TryTake false) next
+    → TierFits (past ++ record { offer = offer; decision = Rejected } ∷ []) (when_rejected t next offer.tick)
+tier_rejected t next past offer fits at forward takes =
     let is : next ≡ after t.bucket (TryTake false) = take_is t.rules past t.bucket next false fits.bucket (omega arith) takes in
     let same : served (past ++ record { offer = offer; decision = Rejected } ∷ []) ≡ served past = served_rejected past offer in
     record {
@@ -79,7 +79,8 @@ tier_rejected t next past offer fits at takes =
       rest = fits.rest;
       taken = rw (same, is) (record {
         order = fits.taken.order;
-        past = fits.taken.past;
+        past = upto-higher t.clock offer.tick (map completion fits.first) forward fits.taken.past;
+        controlled = fits.taken.controlled;
         completed = fits.taken.completed;
         window = fits.taken.window;
         controls = fits.taken.controls;
@@ -127,12 +128,14 @@ bucket_admitted rules past b next offer finish stands at some later enough takes
 
 -- the response goes behind those that are complete at the same tick
 taken_admitted : (t : TierStanding) (next : bucket.Standing) (requests first rest : List Served) (request : Served)
-    → AreTakenIn requests first rest t → next.tick ≡ t.bucket.tick → next.rate ≡ t.bucket.rate → t.bucket.tick < completion request
-    → AreTakenIn (requests ++ request ∷ []) first (insert_behind request rest) (when_admitted t next (due request))
-taken_admitted t next requests first rest request taken at rate later = record {
+    → AreTakenIn requests first rest t → next.tick ≡ t.bucket.tick → next.rate ≡ t.bucket.rate → t.clock ≤ request.offer.tick
+    → request.offer.tick < completion request
+    → AreTakenIn (requests ++ request ∷ []) first (insert_behind request rest) (when_admitted t next request.offer.tick (due request))
+taken_admitted t next requests first rest request taken at rate forward later = record {
   order = by_completion-push requests request ∙ ap (insert_behind request) taken.order
-      ∙ behind-first t.bucket.tick request first rest taken.past later;
-  past = rw at taken.past;
+      ∙ behind-first t.clock request first rest taken.past (omega (arith, forward, later));
+  past = upto-higher t.clock request.offer.tick (map completion first) forward taken.past;
+  controlled = rw at taken.controlled;
   completed = taken.completed;
   window = taken.window;
   controls = taken.controls;
@@ -141,11 +144,11 @@ taken_admitted t next requests first rest request taken at rate later = record {
 }
 
 pub tier_admitted : (t : TierStanding) (next : bucket.Standing) (past : List Decided) (offer : Offer) (finish : ℕ)
-    → TierFits past t → t.bucket.tick ≡ offer.tick → 0 < t.rules.every → offer.tick < finish → TOKEN ≤ t.bucket.credit
-    → Does t.bucket (TryTake true) next
+    → TierFits past t → t.bucket.tick ≡ offer.tick → t.clock ≤ offer.tick → 0 < t.rules.every → offer.tick < finish
+    → TOKEN ≤ t.bucket.credit → Does t.bucket (TryTake true) next
     → TierFits (past ++ record { offer = offer; decision = Admitted finish } ∷ [])
-    (when_admitted t next (record { completion = finish + offer.delay; sample = finish + offer.delay - offer.tick }))
-tier_admitted t next past offer finish fits at some later enough takes =
+    (when_admitted t next offer.tick (record { completion = finish + offer.delay; sample = finish + offer.delay - offer.tick }))
+tier_admitted t next past offer finish fits at forward some later enough takes =
     let is : next ≡ after t.bucket (TryTake true) = take_is t.rules past t.bucket next true fits.bucket enough takes in
     let request : Served = record { offer = offer; finish = finish } in
     let more : served (past ++ record { offer = offer; decision = Admitted finish } ∷ []) ≡ served past ++ request ∷ [] =
@@ -154,7 +157,7 @@ tier_admitted t next past offer finish fits at some later enough takes =
       first = fits.first;
       rest = insert_behind request fits.rest;
       taken = rw more (taken_admitted t next (served past) fits.first fits.rest request fits.taken
-          (ap (λ (b : bucket.Standing). b.tick) is) (ap (λ (b : bucket.Standing). b.rate) is) (omega arith));
+          (ap (λ (b : bucket.Standing). b.tick) is) (ap (λ (b : bucket.Standing). b.rate) is) forward (omega arith));
       bucket = bucket_admitted t.rules past t.bucket next offer finish fits.bucket at some later enough takes;
       admitted = rw more (ap (λ n. n + 1) fits.admitted ∙ sym (length-append (served past) (request ∷ [])));
       rejected =
@@ -195,34 +198,35 @@ foresees t past tick fits at some ahead = (
 -- ---- an offer at a later tick, up to which time has passed
 
 pub moved_fits : (t : TierStanding) (moved : bucket.Standing) (past : List Decided) (tick : ℕ) → IsSoundTier t
-    → t.bucket.tick ≤ tick → AllFrom (tick + 1) (completions t.flight.responses) → Does t.bucket (Advance tick) moved
+    → t.clock ≤ tick → AllFrom (tick + 1) (completions t.flight.responses) → Does t.bucket (Advance tick) moved
     → TierFits past t → TierFits past (record t { bucket = moved })
 moved_fits t moved past tick sound forward complete moves fits =
-    fits_later t past moved tick fits sound.every forward
+    fits_later t past moved tick fits sound.every (omega (arith, forward, sound.behind))
     (from-lower tick (tick + 1) (completions t.flight.responses) (omega arith) complete) moves
 
 pub found_at : (t : TierStanding) (moved : bucket.Standing) (past : List Decided) (tick : ℕ) → IsSoundTier t
-    → t.bucket.tick ≤ tick → AllFrom (tick + 1) (completions t.flight.responses) → Does t.bucket (Advance tick) moved → moved.tick ≡ tick
+    → t.clock ≤ tick → AllFrom (tick + 1) (completions t.flight.responses) → Does t.bucket (Advance tick) moved → moved.tick ≡ tick
     → TierFits past t
     → (moved.credit ≡ credit t.rules past tick) × (moved.rate ≡ rate_at t.rules (served past) tick)
 found_at t moved past tick sound forward complete moves at fits =
     foresees (record t { bucket = moved }) past tick (moved_fits t moved past tick sound forward complete moves fits) at sound.every complete
 
 pub rejected_fits : (t : TierStanding) (moved next : bucket.Standing) (past : List Decided) (offer : Offer) (tick : ℕ) → IsSoundTier t
-    → t.bucket.tick ≤ tick → AllFrom (tick + 1) (completions t.flight.responses) → Does t.bucket (Advance tick) moved → moved.tick ≡ tick
+    → t.clock ≤ tick → AllFrom (tick + 1) (completions t.flight.responses) → Does t.bucket (Advance tick) moved → moved.tick ≡ tick
     → Does moved (TryTake false) next → offer.tick ≡ tick → TierFits past t
-    → TierFits (past ++ record { offer = offer; decision = Rejected } ∷ []) (when_rejected t next)
+    → TierFits (past ++ record { offer = offer; decision = Rejected } ∷ []) (when_rejected t next tick)
 rejected_fits t moved next past offer tick sound forward complete moves there takes at fits =
-    tier_rejected (record t { bucket = moved }) next past offer (moved_fits t moved past tick sound forward complete moves fits)
-    (there ∙ sym at) takes
+    rw (← at)
+    (tier_rejected (record t { bucket = moved }) next past offer (moved_fits t moved past tick sound forward complete moves fits)
+    (there ∙ sym at) (rw at forward) takes)
 
 pub admitted_fits : (t : TierStanding) (moved next : bucket.Standing) (past : List Decided) (offer : Offer) (tick delay finish : ℕ)
-    → IsSoundTier t → t.bucket.tick ≤ tick → AllFrom (tick + 1) (completions t.flight.responses) → Does t.bucket (Advance tick) moved
+    → IsSoundTier t → t.clock ≤ tick → AllFrom (tick + 1) (completions t.flight.responses) → Does t.bucket (Advance tick) moved
     → moved.tick ≡ tick → Does moved (TryTake true) next → offer.tick ≡ tick → offer.delay ≡ delay → tick < finish → TOKEN ≤ moved.credit
     → TierFits past t
     → TierFits (past ++ record { offer = offer; decision = Admitted finish } ∷ [])
-    (when_admitted t next (record { completion = finish + delay; sample = finish + delay - tick }))
+    (when_admitted t next tick (record { completion = finish + delay; sample = finish + delay - tick }))
 admitted_fits t moved next past offer tick delay finish sound forward complete moves there takes at late later enough fits =
     rw (← at, ← late)
     (tier_admitted (record t { bucket = moved }) next past offer finish (moved_fits t moved past tick sound forward complete moves fits)
-    (there ∙ sym at) sound.every (omega (arith, at)) enough takes)
+    (there ∙ sym at) (rw at forward) sound.every (omega (arith, at)) enough takes)

@@ -1,14 +1,18 @@
 -- What each tier keeps stays so at an offer, and while time passes.
-use Rattle.std.proofs.Common.{◌≡◌, ℕ, ◌+◌, ◌%◌, ◌<◌, ◌≤◌, List, [], ◌∷◌, ◌++◌, length, drop, Bool, true, false, refl, ◌∙◌, ap, arith, nat_eq, if◌then◌else◌, Some, slice_get, inl, inr}
-use Rattle.std.specs.Prelude.{None}
-use Rattle.std.proofs.lemmas.Bool.{cases_lt, lt-ltb, le-ltb}
+use Rattle.std.proofs.Common.{◌≡◌, ℕ, ◌+◌, ◌%◌, ◌<◌, ◌≤◌, List, [], ◌∷◌, ◌++◌, length, drop, true, false, nat_eq, refl, sym, ◌∙◌, ap, arith, Some, slice_get, inl, inr}
+use Rattle.std.specs.Prelude.{None, unwrap_or}
+use Rattle.std.proofs.lemmas.Bool.{cases_lt, cases_eq, lt-ltb, le-ltb, eq-eqb, ne_eqb}
 use Rattle.token_bucket.specs.Calls.{Advance, SetRate}
+use Rattle.token_bucket.specs.Standing.{MAX_RATE}
 use Rattle.token_bucket.specs.Standing as bucket
 use Rattle.admission.specs.declared.control.Control.{Control}
-use Rattle.admission.specs.Standing.{Window, with_sample, Due, Flight, completions, insert_due, AllFrom, TierStanding, RiseWithin, AllRates, IsSoundTier, IsShare}
-use Rattle.admission.specs.Running.{last_rate, next_control, with_due, with_complete, when_rejected, when_admitted}
+use Rattle.admission.specs.Standing.{Window, with_sample, Due, Flight, completions, insert_due, AllFrom, TierStanding, RiseWithin, IsSoundTier, IsShare}
+use Rattle.admission.specs.Reference.{percentile}
+use Rattle.admission.specs.Running.{last_rate, next_control, with_complete, when_rejected, when_admitted}
 use Rattle.admission.specs.TierCalls.{Moves}
-use Rattle.admission.proofs.TakenLemmas.{Does, takes_in}
+use Rattle.admission.proofs.ControlLemmas.{last_rate-push}
+use Rattle.admission.proofs.RateLemmas.{rates_push}
+use Rattle.admission.proofs.TakenLemmas.{Does, takes_kept, takes_turned}
 
 -- ---- the instants of the controls
 
@@ -24,12 +28,6 @@ unfolding RiseWithin
 rise_push lo hi [] control rise above low = (low, omega arith, tt)
 rise_push lo hi (first ∷ controls) control rise above low =
     (rise.0, omega (arith, rise.1), rise_push first.instant hi controls control rise.2 above (omega (arith, rise.1)))
-
--- where a control may be due
-rise_due : (due : Bool) (hi : ℕ) (controls : List Control) (control : Control) → RiseWithin 0 hi controls → hi ≤ control.instant
-    → RiseWithin 0 control.instant (if due then (controls ++ control ∷ []) else controls)
-rise_due true hi controls control rise above = rise_push 0 hi controls control rise above (omega arith)
-rise_due false hi controls control rise above = rise_widen 0 hi control.instant controls rise above
 
 -- ---- the responses on their way
 
@@ -67,6 +65,9 @@ unfolding AllFrom
 first-from tick [] d all at = absurd (cc)
 first-from tick (x ∷ ds) d all at = let same : x ≡ d = cc in rw (← same) all.0
 
+pub behind-first : (t : TierStanding) (d : Due) → IsSoundTier t → slice_get t.flight.responses 0 ≡ Some d → t.bucket.tick ≤ d.completion
+behind-first t d sound at = omega (arith, sound.behind, first-from t.clock t.flight.responses d sound.later at)
+
 -- where there is none
 pub from-none : (tick : ℕ) (ds : List Due) → None ≡ slice_get ds 0 → AllFrom tick (completions ds)
 unfolding AllFrom
@@ -75,36 +76,69 @@ from-none tick (x ∷ ds) none = absurd (cc)
 
 -- ---- one more is complete
 
-pub sound_complete : (t : TierStanding) (b : bucket.Standing) (d : Due) (flight : Flight) (window : Window) (controls : List Control) (own : ℕ)
+pub not_due : (n : ℕ) → false ≡ nat_eq n 0 → n ≡ 0 → ⊥
+not_due n is same = let both : false ≡ true = is ∙ eq-eqb n 0 same in absurd (cc)
+
+pub is_due : (n : ℕ) → true ≡ nat_eq n 0 → n ≡ 0
+is_due n is =
+    elim (cases_eq n 0) [ inl same ↦ same | inr apart ↦ absurd (let both : true ≡ false = is ∙ ne_eqb n 0 apart in cc) ]
+
+-- no control is due, and the bucket stays
+pub sound_kept : (t : TierStanding) (d : Due) (flight : Flight) (window : Window) (controls : List Control)
     → IsSoundTier t → slice_get t.flight.responses 0 ≡ Some d → AllFrom d.completion (completions t.flight.responses)
-    → b.tick ≡ d.completion → window.size ≡ t.window.size
-    → flight ≡ record { admitted = t.flight.admitted; responses = drop 1 t.flight.responses }
-    → controls ≡ (if nat_eq ((t.completed + 1) % t.rules.every) 0
-    then (t.controls ++ next_control t.rules t.controls d.completion own ∷ []) else t.controls)
-    → AllRates controls
-    → IsSoundTier (record {
+    → window.size ≡ t.window.size → flight ≡ record { admitted = t.flight.admitted; responses = drop 1 t.flight.responses }
+    → controls ≡ t.controls → IsSoundTier (record {
       rules = t.rules;
-      bucket = b;
+      bucket = t.bucket;
+      clock = d.completion;
       flight = flight;
       completed = t.completed + 1;
       rejected = t.rejected;
       window = window;
       controls = controls;
     })
-sound_complete t b d flight window controls own sound at least there size left is rates = record {
+sound_kept t d flight window controls sound at least size left is = record {
   every = sound.every;
   size = size ∙ sound.size;
   count = rw left (omega (arith, sound.count, one-less t.flight.responses d at));
-  later = rw (there, left) (from-rest d.completion t.flight.responses least);
-  rising = rw (there, is) (rise_due (nat_eq ((t.completed + 1) % t.rules.every) 0) t.bucket.tick t.controls
-      (next_control t.rules t.controls d.completion own) sound.rising
-      (first-from t.bucket.tick t.flight.responses d sound.later at));
-  rates = rates;
+  later = rw left (from-rest d.completion t.flight.responses least);
+  behind = omega (arith, sound.behind, first-from t.clock t.flight.responses d sound.later at);
+  rising = rw is sound.rising;
+  rates = rw is sound.rates;
 }
 
-pub share_complete : (t : TierStanding) (b : bucket.Standing) (d : Due) (offers last now : ℕ) → b.tick ≡ d.completion → d.completion ≤ now
+-- a control is made
+pub sound_turned : (t : TierStanding) (b : bucket.Standing) (d : Due) (flight : Flight) (window : Window) (controls : List Control)
+    (control : Control) → IsSoundTier t → slice_get t.flight.responses 0 ≡ Some d → AllFrom d.completion (completions t.flight.responses)
+    → b.tick ≡ d.completion → window.size ≡ t.window.size
+    → flight ≡ record { admitted = t.flight.admitted; responses = drop 1 t.flight.responses }
+    → controls ≡ t.controls ++ control ∷ [] → control.instant ≡ d.completion → (1 ≤ control.rate) × (control.rate ≤ MAX_RATE)
+    → IsSoundTier (record {
+      rules = t.rules;
+      bucket = b;
+      clock = d.completion;
+      flight = flight;
+      completed = t.completed + 1;
+      rejected = t.rejected;
+      window = window;
+      controls = controls;
+    })
+sound_turned t b d flight window controls control sound at least there size left is instant range =
+    let kept = sound_kept t d flight window t.controls sound at least size left refl in
+    record {
+      every = sound.every;
+      size = kept.size;
+      count = kept.count;
+      later = kept.later;
+      behind = omega (arith, there);
+      rising = rw (there, is, ← instant) (rise_push 0 t.bucket.tick t.controls control sound.rising
+          (omega (arith, instant, kept.behind)) (omega arith));
+      rates = rw is (rates_push t.controls control sound.rates range);
+    }
+
+share_complete : (t : TierStanding) (b : bucket.Standing) (d : Due) (offers last now : ℕ) → d.completion ≤ now
     → IsShare offers last now t → IsShare offers last now (with_complete t b d)
-share_complete t b d offers last now there below share = record {
+share_complete t b d offers last now below share = record {
   admitted = share.admitted;
   rejected = share.rejected;
   clock = omega arith;
@@ -113,25 +147,27 @@ share_complete t b d offers last now there below share = record {
 
 -- ---- an offer
 
-pub sound_rejected : (t : TierStanding) (b : bucket.Standing) → IsSoundTier t → AllFrom b.tick (completions t.flight.responses)
-    → t.bucket.tick ≤ b.tick → IsSoundTier (when_rejected t b)
-sound_rejected t b sound later forward = record {
+pub sound_rejected : (t : TierStanding) (b : bucket.Standing) (tick : ℕ) → IsSoundTier t → AllFrom tick (completions t.flight.responses)
+    → b.tick ≡ tick → t.clock ≤ tick → IsSoundTier (when_rejected t b tick)
+sound_rejected t b tick sound later at forward = record {
   every = sound.every;
   size = sound.size;
   count = sound.count;
   later = later;
-  rising = rise_widen 0 t.bucket.tick b.tick t.controls sound.rising forward;
+  behind = omega (arith, at);
+  rising = rise_widen 0 t.bucket.tick b.tick t.controls sound.rising (omega (arith, at, forward, sound.behind));
   rates = sound.rates;
 }
 
-pub sound_admitted : (t : TierStanding) (b : bucket.Standing) (d : Due) → IsSoundTier t → AllFrom b.tick (completions t.flight.responses)
-    → t.bucket.tick ≤ b.tick → b.tick ≤ d.completion → IsSoundTier (when_admitted t b d)
-sound_admitted t b d sound later forward ahead = record {
+pub sound_admitted : (t : TierStanding) (b : bucket.Standing) (tick : ℕ) (d : Due) → IsSoundTier t → AllFrom tick (completions t.flight.responses)
+    → b.tick ≡ tick → t.clock ≤ tick → tick ≤ d.completion → IsSoundTier (when_admitted t b tick d)
+sound_admitted t b tick d sound later at forward ahead = record {
   every = sound.every;
   size = sound.size;
   count = omega (arith, sound.count, length-due d t.flight.responses);
-  later = from-due b.tick d t.flight.responses ahead later;
-  rising = rise_widen 0 t.bucket.tick b.tick t.controls sound.rising forward;
+  later = from-due tick d t.flight.responses ahead later;
+  behind = omega (arith, at);
+  rising = rise_widen 0 t.bucket.tick b.tick t.controls sound.rising (omega (arith, at, forward, sound.behind));
   rates = sound.rates;
 }
 
@@ -158,8 +194,8 @@ share_complete_at offers last now tick t share complete = record {
 }
 
 pub share_rejected : (offers tick : ℕ) (t : TierStanding) (b : bucket.Standing) → IsShare offers tick tick t
-    → b.tick ≡ tick → IsShare (offers + 1) tick tick (when_rejected t b)
-share_rejected offers tick t b share at = record {
+    → IsShare (offers + 1) tick tick (when_rejected t b tick)
+share_rejected offers tick t b share = record {
   admitted = omega (arith, share.admitted);
   rejected = omega (arith, share.rejected);
   clock = omega arith;
@@ -167,8 +203,8 @@ share_rejected offers tick t b share at = record {
 }
 
 pub share_admitted : (offers tick : ℕ) (t : TierStanding) (b : bucket.Standing) (d : Due) → IsShare offers tick tick t
-    → b.tick ≡ tick → tick < d.completion → IsShare (offers + 1) tick tick (when_admitted t b d)
-share_admitted offers tick t b d share at later = record {
+    → tick < d.completion → IsShare (offers + 1) tick tick (when_admitted t b tick d)
+share_admitted offers tick t b d share later = record {
   admitted = omega (arith, share.admitted);
   rejected = omega (arith, share.rejected);
   clock = omega arith;
@@ -187,38 +223,56 @@ moves_then a b c i tick first next below = record {
   share = λ offers last now within share. next.share offers last now (omega arith) (first.share offers last now within share);
 }
 
-moves_complete : (t : TierStanding) (moved next : bucket.Standing) (d : Due) → IsSoundTier t
-    → slice_get t.flight.responses 0 ≡ Some d → AllFrom d.completion (completions t.flight.responses)
-    → Does t.bucket (Advance d.completion) moved
-    → Does moved (SetRate (last_rate t.rules (with_complete t next d).controls)) next → next.tick ≡ d.completion
-    → Moves t d.completion (with_complete t next d)
-moves_complete t moved next d sound at least moves turns there = record {
-  rules = refl;
-  fits = λ past fits. takes_in t past d moved next fits at least sound.every
-      (first-from t.bucket.tick t.flight.responses d sound.later at) moves turns;
-  share = λ offers last now below share. share_complete t next d offers last now there below share;
-}
-
--- by what the steps left
-pub moves_taken : (t : TierStanding) (moved next : bucket.Standing) (d : Due) (flight : Flight) (window : Window) (controls : List Control) (rate : ℕ)
-    → IsSoundTier t → slice_get t.flight.responses 0 ≡ Some d → AllFrom d.completion (completions t.flight.responses)
-    → Does t.bucket (Advance d.completion) moved → Does moved (SetRate rate) next → next.tick ≡ d.completion
+-- no control is due
+pub moves_kept : (t : TierStanding) (d : Due) (flight : Flight) (window : Window) (controls : List Control)
+    → IsSoundTier t → slice_get t.flight.responses 0 ≡ Some d → ((t.completed + 1) % t.rules.every ≡ 0 → ⊥)
     → flight ≡ record { admitted = t.flight.admitted; responses = drop 1 t.flight.responses }
-    → window ≡ with_sample t.window d.sample
-    → controls ≡ with_due t.rules t.controls window.samples (t.completed + 1) d.completion
-    → rate ≡ last_rate t.rules controls
+    → window ≡ with_sample t.window d.sample → controls ≡ t.controls
     → Moves t d.completion (record {
       rules = t.rules;
-      bucket = next;
+      bucket = t.bucket;
+      clock = d.completion;
       flight = flight;
       completed = t.completed + 1;
       rejected = t.rejected;
       window = window;
       controls = controls;
     })
-moves_taken t moved next d flight window controls rate sound at least moves turns there left is made last =
+moves_kept t d flight window controls sound at apart left is same =
+    let none : (with_complete t t.bucket d).controls ≡ t.controls = rw (ne_eqb ((t.completed + 1) % t.rules.every) 0 apart) refl in
+    let moves : Moves t d.completion (with_complete t t.bucket d) = record {
+      rules = refl;
+      fits = λ past fits. takes_kept t past d fits at sound.every (first-from t.clock t.flight.responses d sound.later at) apart;
+      share = λ offers last now below share. share_complete t t.bucket d offers last now below share;
+    } in
+    rw (left, is, same) (rw none at moves)
+
+-- a control is made
+pub moves_turned : (t : TierStanding) (moved next : bucket.Standing) (d : Due) (flight : Flight) (window : Window) (controls : List Control)
+    (control : Control) → IsSoundTier t → slice_get t.flight.responses 0 ≡ Some d → AllFrom d.completion (completions t.flight.responses)
+    → (t.completed + 1) % t.rules.every ≡ 0 → Does t.bucket (Advance d.completion) moved → Does moved (SetRate control.rate) next
+    → flight ≡ record { admitted = t.flight.admitted; responses = drop 1 t.flight.responses }
+    → window ≡ with_sample t.window d.sample → controls ≡ t.controls ++ control ∷ []
+    → control ≡ next_control t.rules t.controls d.completion (unwrap_or (percentile window.samples) 0)
+    → Moves t d.completion (record {
+      rules = t.rules;
+      bucket = next;
+      clock = d.completion;
+      flight = flight;
+      completed = t.completed + 1;
+      rejected = t.rejected;
+      window = window;
+      controls = controls;
+    })
+moves_turned t moved next d flight window controls control sound at least due moves turns left is made own =
     let same : controls ≡ (with_complete t next d).controls =
-    made ∙ ap (λ (w : Window). with_due t.rules t.controls w.samples (t.completed + 1) d.completion) is in
-    let rated : rate ≡ last_rate t.rules (with_complete t next d).controls = last ∙ ap (last_rate t.rules) same in
-    rw (left, same, is)
-    (moves_complete t moved next d sound at least moves (λ past fits. rw (← rated) (turns past fits)) there)
+    rw (eq-eqb ((t.completed + 1) % t.rules.every) 0 due, made, own, is) refl in
+    let rated : control.rate ≡ last_rate t.rules (with_complete t next d).controls =
+    last_rate-push t.rules t.controls control ∙ ap (last_rate t.rules) (sym made ∙ same) in
+    let all : Moves t d.completion (with_complete t next d) = record {
+      rules = refl;
+      fits = λ past fits. takes_turned t past d moved next fits at least sound.every
+          (first-from t.clock t.flight.responses d sound.later at) sound.behind moves (λ past fits. rw (← rated) (turns past fits));
+      share = λ offers last now below share. share_complete t next d offers last now below share;
+    } in
+    rw (left, same, is) all

@@ -1,7 +1,8 @@
 -- While time passes a tier keeps the credit and the rate of the requests so far.
-use Rattle.std.proofs.Common.{◌≡◌, ℕ, ◌+◌, ◌-◌, ◌*◌, ◌/◌, ◌<◌, ◌≤◌, min, List, [], ◌∷◌, ◌++◌, length, drop, map, Some, slice_get, refl, sym, ◌∙◌, ap, arith, append_assoc, length-append}
+use Rattle.std.proofs.Common.{◌≡◌, ℕ, ◌+◌, ◌-◌, ◌*◌, ◌/◌, ◌%◌, ◌<◌, ◌≤◌, min, List, [], ◌∷◌, ◌++◌, length, drop, map, take, Some, slice_get, refl, sym, ◌∙◌, ap, arith, append_assoc, length-append}
 use Rattle.std.proofs.lemmas.Grind.{common_steps}
-use Rattle.std.proofs.lemmas.List.{map-append}
+use Rattle.std.proofs.lemmas.Bool.{ne_eqb}
+use Rattle.std.proofs.lemmas.List.{map-append, length-map, take-append-le}
 use Rattle.circular_buffer.specs.Buffer.{keep_last}
 use Rattle.token_bucket.specs.Reference.{TOKEN, accrual}
 use Rattle.token_bucket.specs.Calls.{Call, Past, Advance, SetRate, and_then}
@@ -15,17 +16,17 @@ use Rattle.admission.specs.declared.control.Control.{Control}
 use Rattle.admission.specs.Reference.{Decided, Served, served, completion, sample, samples, done, by_completion, rate_after, rate_at, credit}
 use Rattle.admission.specs.Standing.{Window, window_of, with_sample, Due, completions, AllFrom, TierStanding}
 use Rattle.admission.specs.Running.{last_rate, with_due, with_complete}
-use Rattle.admission.specs.After.{due, BucketFits, AreTakenIn, TierFits}
+use Rattle.admission.specs.After.{AllUpTo, due, BucketFits, AreTakenIn, TierFits}
 use Rattle.admission.proofs.HeapLemmas.{from-lower}
 use Rattle.admission.proofs.CreditLemmas.{least_balance-le, least_balance-later, covered-later}
-use Rattle.admission.proofs.CompletionLemmas.{insert_behind, done-later, done-split, by_completion-push, behind-first, completions-due, split_at, upto-higher, upto-push}
-use Rattle.admission.proofs.ControlLemmas.{quotient_fits, rate_after-more, samples-append, length-samples, controls_by, controls-push, last_rate-is}
+use Rattle.admission.proofs.CompletionLemmas.{insert_behind, done-later, done-split, done-between, by_completion-push, behind-first, completions-due, split_at, upto-higher, upto-push, upto-take}
+use Rattle.admission.proofs.ControlLemmas.{fits_quotient, quotient_fits, quotient_same, length-push, rate_after-more, samples-append, length-samples, controls_by, controls-push, last_rate-is}
 
 -- ---- the rate in force
 
 -- it is that of the complete responses
 pub rate_split : (rules : PolicyNumbers) (requests first rest : List Served) (u : ℕ) → 0 < rules.every
-    → by_completion requests ≡ first ++ rest → done requests u ≡ length first
+    → by_completion requests ≡ first ++ rest → done requests u / rules.every ≡ length first / rules.every
     → rate_at rules requests u ≡ rate_after rules (samples first) (length first / rules.every)
 rate_split rules requests first rest u some is count =
     let within : length first / rules.every * rules.every ≤ length (samples first) =
@@ -42,21 +43,33 @@ rate_before rules requests request u some before =
     let order : by_completion (requests ++ request ∷ []) ≡ parts.first ++ insert_behind request parts.rest =
     by_completion-push requests request ∙ ap (insert_behind request) parts.is
     ∙ behind-first u request parts.first parts.rest parts.past before in
-    rate_split rules requests parts.first parts.rest u some parts.is count
-    ∙ sym (rate_split rules (requests ++ request ∷ []) parts.first (insert_behind request parts.rest) u some order more)
+    rate_split rules requests parts.first parts.rest u some parts.is (ap (λ n. n / rules.every) count)
+    ∙ sym (rate_split rules (requests ++ request ∷ []) parts.first (insert_behind request parts.rest) u some order
+    (ap (λ n. n / rules.every) more))
 
--- as many are complete as were taken in, where those on their way are later
-done_now : (requests first rest : List Served) (t : TierStanding) (u : ℕ) → AreTakenIn requests first rest t → t.bucket.tick ≤ u
-    → AllFrom (u + 1) (completions t.flight.responses) → done requests u ≡ length first
-done_now requests first rest t u taken later ahead =
+-- a number between the last multiple of a size and one more has the quotient of that one
+quotient_between : (e m n : ℕ) → 0 < e → m / e * e ≤ n → n ≤ m → n / e ≡ m / e
+quotient_between e m n some low high =
+    let least : m / e ≤ n / e = fits_quotient (m / e) e n some low in
+    let whole : n / e * e ≤ n = quotient_fits (n / e) e n some (omega arith) in
+    let most : n / e ≤ m / e = fits_quotient (n / e) e m some (omega (arith, whole, high)) in
+    omega (arith, least, most)
+
+-- as many controls are made of the complete ones as of those that were taken in, where those on their way are later
+controls_now : (requests first rest : List Served) (t : TierStanding) (u : ℕ) → AreTakenIn requests first rest t → 0 < t.rules.every
+    → t.bucket.tick ≤ u → AllFrom (u + 1) (completions t.flight.responses) → done requests u / t.rules.every ≡ length first / t.rules.every
+controls_now requests first rest t u taken some later ahead =
     let waiting : AllFrom (u + 1) (completions (map due rest)) = rw (← taken.responses) ahead in
-    done-split u requests first rest taken.order (upto-higher t.bucket.tick u (map completion first) later taken.past)
-    (rw (← completions-due rest) waiting)
+    let within : length first / t.rules.every * t.rules.every ≤ length first =
+    quotient_fits (length first / t.rules.every) t.rules.every (length first) some (omega arith) in
+    let bounds = done-between u (length first / t.rules.every * t.rules.every) requests first rest taken.order within
+    (upto-higher t.bucket.tick u _ later taken.controlled) (rw (← completions-due rest) waiting) in
+    quotient_between t.rules.every (length first) (done requests u) some bounds.0 bounds.1
 
 pub rate_now : (requests first rest : List Served) (t : TierStanding) (u : ℕ) → AreTakenIn requests first rest t → 0 < t.rules.every
     → t.bucket.tick ≤ u → AllFrom (u + 1) (completions t.flight.responses) → rate_at t.rules requests u ≡ t.bucket.rate
 rate_now requests first rest t u taken some later ahead =
-    rate_split t.rules requests first rest u some taken.order (done_now requests first rest t u taken later ahead) ∙ sym taken.rate
+    rate_split t.rules requests first rest u some taken.order (controls_now requests first rest t u taken some later ahead) ∙ sym taken.rate
 
 -- ---- the bucket
 
@@ -141,7 +154,8 @@ fits_later t past next tick fits some later ahead moves =
       rest = fits.rest;
       taken = record {
         order = fits.taken.order;
-        past = rw is (upto-higher t.bucket.tick tick (map completion fits.first) later fits.taken.past);
+        past = fits.taken.past;
+        controlled = rw is (upto-higher t.bucket.tick tick _ later fits.taken.controlled);
         completed = fits.taken.completed;
         window = fits.taken.window;
         controls = fits.taken.controls;
@@ -182,66 +196,102 @@ taken_controls t requests first rest x d taken is some =
     ∙ ap (λ (d : Due). with_due t.rules (controls_by t.rules first) (keep_last t.rules.window (samples first ++ sample x ∷ [])) (length first + 1) d.completion) (sym is)
     ∙ sym (controls-push t.rules first x some)
 
--- the bucket's clock comes to its completion, and its rate is then that of the controls
-taken_next : (t : TierStanding) (past : List Decided) (first rest : List Served) (x : Served) (d : Due) (moved next : bucket.Standing)
-    → AreTakenIn (served past) first (x ∷ rest) t → BucketFits t.rules past t.bucket → BucketFits t.rules past moved → due x ≡ d
-    → 0 < t.rules.every → t.bucket.tick ≤ d.completion → Does t.bucket (Advance d.completion) moved
-    → Does moved (SetRate (last_rate t.rules (with_complete t next d).controls)) next
-    → AreTakenIn (served past) (first ++ x ∷ []) rest (with_complete t next d)
-taken_next t past first rest x d moved next taken stands stands_moved is some later moves turns =
-    let controls : List Control = (with_complete t next d).controls in
-    let there : moved ≡ after t.bucket (Advance d.completion) = advance_is t.rules past t.bucket moved d.completion stands later moves in
-    let turned : next ≡ after moved (SetRate (last_rate t.rules controls)) =
-    set_is t.rules past moved next (last_rate t.rules controls) stands_moved turns in
-    let at : next.tick ≡ d.completion = ap (λ (b : bucket.Standing). b.tick) turned ∙ ap (λ (b : bucket.Standing). b.tick) there in
+-- with it the bucket's rate is that of the controls, which were made of what was complete when its clock came so far
+taken_next : (t : TierStanding) (requests first rest : List Served) (x : Served) (d : Due) (next : bucket.Standing)
+    → AreTakenIn requests first (x ∷ rest) t → due x ≡ d → 0 < t.rules.every → t.clock ≤ d.completion
+    → AllUpTo next.tick (take (length (first ++ x ∷ []) / t.rules.every * t.rules.every) (map completion (first ++ x ∷ [])))
+    → next.rate ≡ last_rate t.rules (with_complete t next d).controls
+    → AreTakenIn requests (first ++ x ∷ []) rest (with_complete t next d)
+taken_next t requests first rest x d next taken is some later controlled rate =
     let own : completion x ≡ d.completion = ap (λ (d : Due). d.completion) is in
-    let made : controls ≡ controls_by t.rules (first ++ x ∷ []) = taken_controls t (served past) first (x ∷ rest) x d taken is some in
+    let made : (with_complete t next d).controls ≡ controls_by t.rules (first ++ x ∷ []) =
+    taken_controls t requests first (x ∷ rest) x d taken is some in
     record {
       order = taken.order ∙ sym (append_assoc first (x ∷ []) rest);
-      past = rw (at, map-append completion first (x ∷ []))
+      past = rw (map-append completion first (x ∷ []))
           (upto-push d.completion (map completion first) (completion x)
-          (upto-higher t.bucket.tick d.completion (map completion first) later taken.past) (omega (arith, own)));
+          (upto-higher t.clock d.completion (map completion first) later taken.past) (omega (arith, own)));
+      controlled = controlled;
       completed = ap (λ n. n + 1) taken.completed ∙ sym (length-append first (x ∷ []));
-      window = rw (samples-append first (x ∷ [])) (taken_window t (served past) first (x ∷ rest) x d taken is);
+      window = rw (samples-append first (x ∷ [])) (taken_window t requests first (x ∷ rest) x d taken is);
       controls = made;
-      rate = ap (λ (b : bucket.Standing). b.rate) turned ∙ ap (last_rate t.rules) made ∙ last_rate-is t.rules (first ++ x ∷ []);
+      rate = rate ∙ ap (last_rate t.rules) made ∙ last_rate-is t.rules (first ++ x ∷ []);
       responses = ap (λ (ds : List Due). drop 1 ds) taken.responses;
     }
 
 same_some : (a b : Due) → Some a ≡ Some b → a ≡ b
 same_some a b same = cc
 
-takes_next : (t : TierStanding) (past : List Decided) (first rest : List Served) (d : Due) (moved next : bucket.Standing)
-    → AreTakenIn (served past) first rest t → BucketFits t.rules past t.bucket
-    → slice_get t.flight.responses 0 ≡ Some d → AllFrom d.completion (completions t.flight.responses)
-    → 0 < t.rules.every → t.bucket.tick ≤ d.completion → Does t.bucket (Advance d.completion) moved
-    → Does moved (SetRate (last_rate t.rules (with_complete t next d).controls)) next
-    → (later : List Served) × (more : List Served) × AreTakenIn (served past) later more (with_complete t next d) × BucketFits t.rules past next
-takes_next t past first [] d moved next taken stands at least some later moves turns =
+-- the first of those on their way
+next_of : (past : List Decided) (t : TierStanding) (d : Due) (first rest : List Served) → AreTakenIn (served past) first rest t
+    → slice_get t.flight.responses 0 ≡ Some d
+    → (x : Served) × (more : List Served) × (due x ≡ d) × AreTakenIn (served past) first (x ∷ more) t
+next_of past t d first [] taken at =
     let none : slice_get (map due []) 0 ≡ Some d = sym (ap (λ (ds : List Due). slice_get ds 0) taken.responses) ∙ at in absurd (cc)
-takes_next t past first (x ∷ rest) d moved next taken stands at least some later moves turns =
+next_of past t d first (x ∷ rest) taken at =
     let found : slice_get (map due (x ∷ rest)) 0 ≡ Some d = sym (ap (λ (ds : List Due). slice_get ds 0) taken.responses) ∙ at in
-    let is : due x ≡ d = same_some (due x) d found in
-    let there : BucketFits t.rules past moved =
-    bucket_later t past first (x ∷ rest) moved d.completion stands taken some later least moves in (
-      first ++ x ∷ [],
-      rest,
-      taken_next t past first rest x d moved next taken stands there is some later moves turns,
-      bucket_set t.rules past moved next (last_rate t.rules (with_complete t next d).controls) there turns,
-    )
+    (x, rest, same_some (due x) d found, taken)
 
-pub takes_in : (t : TierStanding) (past : List Decided) (d : Due) (moved next : bucket.Standing) → TierFits past t
+-- no control is due, and the bucket stays
+pub takes_kept : (t : TierStanding) (past : List Decided) (d : Due) → TierFits past t → slice_get t.flight.responses 0 ≡ Some d
+    → 0 < t.rules.every → t.clock ≤ d.completion → ((t.completed + 1) % t.rules.every ≡ 0 → ⊥)
+    → TierFits past (with_complete t t.bucket d)
+takes_kept t past d fits at some later apart =
+    let next = next_of past t d fits.first fits.rest fits.taken at in
+    let x : Served = next.0 in
+    let first : List Served = fits.first in
+    let e : ℕ = t.rules.every in
+    let count : (length first + 1) % e ≡ 0 → ⊥ = rw (← fits.taken.completed) apart in
+    let same : length (first ++ x ∷ []) / e ≡ length first / e =
+    ap (λ n. n / e) (length-push first x) ∙ quotient_same e (length first) some count in
+    let within : length first / e * e ≤ length (map completion first) =
+    rw (length-map first completion) (quotient_fits (length first / e) e (length first) some (omega arith)) in
+    let none : (with_complete t t.bucket d).controls ≡ t.controls =
+    rw (ne_eqb ((t.completed + 1) % e) 0 apart) refl in
+    record {
+      first = first ++ x ∷ [];
+      rest = next.1;
+      taken = taken_next t (served past) first next.1 x d t.bucket next.3 next.2 some later
+          (rw (
+            same,
+            map-append completion first (x ∷ []),
+            take-append-le (length first / e * e) (map completion first) (completion x ∷ []) within,
+          ) fits.taken.controlled)
+          (fits.taken.rate ∙ sym (last_rate-is t.rules first) ∙ ap (last_rate t.rules) (sym fits.taken.controls ∙ sym none));
+      bucket = fits.bucket;
+      admitted = fits.admitted;
+      rejected = fits.rejected;
+    }
+
+-- else its clock comes to the completion, and its rate is then that of the control
+pub takes_turned : (t : TierStanding) (past : List Decided) (d : Due) (moved next : bucket.Standing) → TierFits past t
     → slice_get t.flight.responses 0 ≡ Some d → AllFrom d.completion (completions t.flight.responses)
-    → 0 < t.rules.every → t.bucket.tick ≤ d.completion → Does t.bucket (Advance d.completion) moved
+    → 0 < t.rules.every → t.clock ≤ d.completion → t.bucket.tick ≤ t.clock → Does t.bucket (Advance d.completion) moved
     → Does moved (SetRate (last_rate t.rules (with_complete t next d).controls)) next
     → TierFits past (with_complete t next d)
-takes_in t past d moved next fits at least some later moves turns =
-    let took = takes_next t past fits.first fits.rest d moved next fits.taken fits.bucket at least some later moves turns in
+takes_turned t past d moved next fits at least some later behind moves turns =
+    let rate : ℕ = last_rate t.rules (with_complete t next d).controls in
+    let own = next_of past t d fits.first fits.rest fits.taken at in
+    let x : Served = own.0 in
+    let first : List Served = fits.first in
+    let forward : t.bucket.tick ≤ d.completion = omega (arith, later, behind) in
+    let there : moved ≡ after t.bucket (Advance d.completion) =
+    advance_is t.rules past t.bucket moved d.completion fits.bucket forward moves in
+    let stands : BucketFits t.rules past moved =
+    bucket_later t past first fits.rest moved d.completion fits.bucket fits.taken some forward least moves in
+    let turned : next ≡ after moved (SetRate rate) = set_is t.rules past moved next rate stands turns in
+    let tick : next.tick ≡ d.completion = ap (λ (b : bucket.Standing). b.tick) turned ∙ ap (λ (b : bucket.Standing). b.tick) there in
+    let is : completion x ≡ d.completion = ap (λ (d : Due). d.completion) own.2 in
+    let all : AllUpTo d.completion (map completion first ++ completion x ∷ []) =
+    upto-push d.completion (map completion first) (completion x)
+    (upto-higher t.clock d.completion (map completion first) later fits.taken.past) (omega (arith, is)) in
     record {
-      first = took.0;
-      rest = took.1;
-      taken = took.2;
-      bucket = took.3;
+      first = first ++ x ∷ [];
+      rest = own.1;
+      taken = taken_next t (served past) first own.1 x d next own.3 own.2 some later
+          (rw (tick, map-append completion first (x ∷ [])) (upto-take d.completion _ _ all))
+          (ap (λ (b : bucket.Standing). b.rate) turned);
+      bucket = bucket_set t.rules past moved next rate stands turns;
       admitted = fits.admitted;
       rejected = fits.rejected;
     }

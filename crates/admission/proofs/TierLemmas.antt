@@ -309,9 +309,9 @@ offered_station c i tick decision t next within at rules =
     station_kept c i t next (servers_after c.servers decision) tick (get_at c.tiers i t within at) (rw (← at) at rules)
     (many_after c.servers decision)
 
--- its bucket is not beyond the tick up to which time has passed
+-- its clock is not beyond the tick up to which time has passed
 pub clock_at : (c : Standing) (i tick : ℕ) (t : TierStanding) → IsSound c → c.clock ≡ tick → i < length c.tiers
-    → t ≡ slice_index_or c.tiers i t → (slice_index_or c.tiers i t).bucket.tick ≤ tick
+    → t ≡ slice_index_or c.tiers i t → (slice_index_or c.tiers i t).clock ≤ tick
 clock_at c i tick t sound now within at =
     rw (← at) (let own = (sound.tiers i t (get_at c.tiers i t within at)).clock in omega (arith, own, now))
 

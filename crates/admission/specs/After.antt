@@ -1,6 +1,6 @@
 -- What a controller keeps of the offers so far.
 use Rattle.std.specs.Prelude.{◌≡◌, ℕ, ◌+◌, ◌*◌, ◌/◌, ◌≤◌, List, [], ◌∷◌, ◌++◌, length, count_by, Some, slice_get}
-use Rattle.std.specs.Prelude.{map}
+use Rattle.std.specs.Prelude.{map, take}
 use Rattle.std.specs.List.{range_with_len}
 use Rattle.token_bucket.specs.Reference.{TOKEN, accrual}
 use Rattle.token_bucket.specs.Calls.{Past}
@@ -41,11 +41,13 @@ pub record BucketFits (rules : PolicyNumbers) (past : List Decided) (b : bucket.
   pub credit : b.credit ≡ credit rules past b.tick
   pub covered : AllCovered (rate_at rules (served past)) (rules.depth * TOKEN) b.tick past
 
--- of the requests in the order of their completions the first are complete when the bucket's clock has come so far, and
--- made these samples and controls and this rate; the others are on their way
+-- of the requests in the order of their completions the first are complete when the tier's clock has come so far, and
+-- made these samples and controls and this rate; those that controls were made of are when the bucket's clock has; the
+-- others are on their way
 pub record AreTakenIn (requests first rest : List Served) (t : TierStanding) : Type 0 where
   pub order : by_completion requests ≡ first ++ rest
-  pub past : AllUpTo t.bucket.tick (map completion first)
+  pub past : AllUpTo t.clock (map completion first)
+  pub controlled : AllUpTo t.bucket.tick (take (length first / t.rules.every * t.rules.every) (map completion first))
   pub completed : t.completed ≡ length first
   pub window : t.window ≡ window_of t.rules.window (samples first)
   pub controls : t.controls ≡ map (control_at t.rules first) (range_with_len 1 (length first / t.rules.every))

@@ -38,6 +38,7 @@ abbrev pub with_complete : TierStanding → bucket.Standing → Due → TierStan
 with_complete t b due = record {
   rules = t.rules;
   bucket = b;
+  clock = due.completion;
   flight = record { admitted = t.flight.admitted; responses = drop 1 t.flight.responses };
   completed = t.completed + 1;
   rejected = t.rejected;
@@ -45,13 +46,13 @@ with_complete t b due = record {
   controls = with_due t.rules t.controls (with_sample t.window due.sample).samples (t.completed + 1) due.completion;
 }
 
--- the tier after a rejected offer
-abbrev pub when_rejected : TierStanding → bucket.Standing → TierStanding
-when_rejected t b = record t { bucket = b; rejected = t.rejected + 1 }
+-- the tier after a rejected offer at this tick
+abbrev pub when_rejected : TierStanding → bucket.Standing → ℕ → TierStanding
+when_rejected t b tick = record t { bucket = b; clock = tick; rejected = t.rejected + 1 }
 
 -- the tier after an admitted one, whose response is due then
-abbrev pub when_admitted : TierStanding → bucket.Standing → Due → TierStanding
-when_admitted t b due = record t { bucket = b; flight = with_response t.flight due }
+abbrev pub when_admitted : TierStanding → bucket.Standing → ℕ → Due → TierStanding
+when_admitted t b tick due = record t { bucket = b; clock = tick; flight = with_response t.flight due }
 
 -- what becomes of a request after these of its tier, where a server is free from some tick on
 abbrev pub decision_after : PolicyNumbers → List Decided → ℕ → ℕ → ℕ → Decision

@@ -61,11 +61,13 @@ unfoldable pub AllFrom : ℕ → List ℕ → Type 0
 AllFrom tick [] = Unit {0}
 AllFrom tick (x ∷ xs) = (tick ≤ x) × AllFrom tick xs
 
--- a tier: its policy's numbers; its bucket; its admitted requests, and how many of their responses are complete; how
--- many of its requests were rejected; the window of the complete ones, and the controls that were made of them
+-- a tier: its policy's numbers; its bucket; the tick up to which time has passed for its responses; its admitted
+-- requests, and how many of their responses are complete; how many of its requests were rejected; the window of the
+-- complete ones, and the controls that were made of them
 pub record TierStanding : Type 0 where
   pub rules : PolicyNumbers
   pub bucket : bucket.Standing
+  pub clock : ℕ
   pub flight : Flight
   pub completed : ℕ
   pub rejected : ℕ
@@ -110,16 +112,17 @@ pub record IsSoundTier (t : TierStanding) : Type 0 where
   pub every : 1 ≤ t.rules.every
   pub size : t.window.size ≡ t.rules.window
   pub count : t.completed + length t.flight.responses ≡ t.flight.admitted
-  pub later : AllFrom t.bucket.tick (completions t.flight.responses)
+  pub later : AllFrom t.clock (completions t.flight.responses)
+  pub behind : t.bucket.tick ≤ t.clock
   pub rising : RiseWithin 0 t.bucket.tick t.controls
   pub rates : AllRates t.controls
 
 -- a tier beside the others, where time has passed up to now: no more of its requests were admitted than offered in all,
--- its bucket is not beyond now, and all responses that were complete at this tick were taken in
+-- its clock is not beyond now, and all responses that were complete at this tick were taken in
 pub record IsShare (offers tick now : ℕ) (t : TierStanding) : Type 0 where
   pub admitted : t.flight.admitted ≤ offers
   pub rejected : t.rejected ≤ offers
-  pub clock : t.bucket.tick ≤ now
+  pub clock : t.clock ≤ now
   pub complete : AllFrom (tick + 1) (completions t.flight.responses)
 
 -- what each controller keeps, whatever was offered

@@ -116,7 +116,8 @@ impl Controller {
         requires { (1 ≤ servers) × (servers ≤ MAX_SERVERS) }
         ensures fits { IfOk result (λ controller. ControllerAfter [] controller) }
         ensures station { IfOk result
-            (λ controller. station_of controller ≡ record { policies = policies; servers = servers }) }
+            (λ controller. station_of controller
+            ≡ record { policies = policies; servers = servers }) }
         ensures start { IfOk result
             (λ controller. (controller.offers ≡ 0) × (controller.clock ≡ 0)) }
     {
@@ -171,7 +172,8 @@ impl Controller {
             (record { tier = tier; tick = tick; service = service; delay = delay })) }
         ensures fits { OnOk result
             ((offers : List Offer) → ControllerAfter offers self.old → ControllerAfter (offers
-            ++ record { tier = tier; tick = tick; service = service; delay = delay } ∷ []) self.new) }
+            ++ record { tier = tier; tick = tick; service = service; delay = delay } ∷ [])
+            self.new) }
 
         // What the next offer asks.
         ensures next { OnOk result
@@ -211,8 +213,10 @@ impl Controller {
     pub fn outlook(&mut self, tier: u8, tick: u64) -> Result<Outlook, AllocError>
         requires tier { tier < 4 }
         requires forward { (self.old.clock ≤ tick) × (tick ≤ MAX_TICK) }
-        ensures finds { IfOk result (λ found. (offers : List Offer) → ControllerAfter offers self.old
-            → found ≡ outlook (station_of self.old) (decided (station_of self.old) offers) tier tick) }
+        ensures finds { IfOk result
+            (λ found. (offers : List Offer) → ControllerAfter offers self.old
+            → found
+            ≡ outlook (station_of self.old) (decided (station_of self.old) offers) tier tick) }
         ensures range { IfOk result (λ found. found.free ≤ MAX_TICK + MAX_SERVICE * MAX_OFFERS) }
         ensures same { StandsAsBefore self.old self.new }
         ensures clock { self.new.clock ≡ tick }
@@ -227,7 +231,8 @@ impl Controller {
         requires complete { AreComplete self.now.tiers tick }
         requires clock { (self.now.clock ≡ tick) × (tick ≤ MAX_TICK) }
         ensures finds { (offers : List Offer) → ControllerAfter offers self.now
-            → result ≡ outlook (station_of self.now) (decided (station_of self.now) offers) tier tick }
+            → result
+            ≡ outlook (station_of self.now) (decided (station_of self.now) offers) tier tick }
         ensures range { result.free ≤ MAX_TICK + MAX_SERVICE * MAX_OFFERS }
     {
         self.tiers[usize::from(tier)].outlook(self.servers.first(), tick)
@@ -247,7 +252,8 @@ impl Controller {
     pub fn rejected(&self, tier: u8) -> u64
         requires { tier < 4 }
         ensures { (offers : List Offer) → ControllerAfter offers self.now
-            → result ≡ count_by (λ r. is_rejected r.decision) (of_tier tier (decided (station_of self.now) offers)) }
+            → result ≡ count_by (λ r. is_rejected r.decision)
+            (of_tier tier (decided (station_of self.now) offers)) }
     {
         let own = &self.tiers[usize::from(tier)];
         own.rejected

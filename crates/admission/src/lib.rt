@@ -1,10 +1,10 @@
 //! Adaptive admission control on virtual time.
 //!
 //! One virtual server, or several side by side, take the admitted requests of four tiers in their order. Each tier has
-//! a policy and a token bucket of its own. At every n of its responses, in the order in which they are complete, a control
-//! compares the smoothed 90th percentile of the response times with a target, and raises the rate of its bucket by
-//! addition or lowers it by division. A request is admitted where the bucket of its tier has
-//! a token when it is offered. All times are ticks of one microsecond.
+//! a policy and a token bucket of its own. At every n of its responses, in the order in which they are complete, a
+//! control compares the smoothed 90th percentile of the response times with a target, and raises the rate of its bucket
+//! by addition or lowers it by division. A request is admitted where the bucket of its tier has a token when it is
+//! offered. All times are ticks of one microsecond.
 #![tactic(auto)]
 
 mod control;

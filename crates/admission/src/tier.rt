@@ -1,13 +1,13 @@
 //! A tier: its bucket, its window of samples and its controls.
 
 ghost use Rattle.std.specs.Prelude.{◌≡◌, ◌+◌, ◌-◌, ◌*◌, ◌<◌, ◌≤◌, [], ◌∷◌, ℕ, List, drop, take, filter, max, nat_le};
-ghost use Rattle.std.specs.Prelude.{length, vec_len, vec_capacity, slice_get, Some, IfOk, OnOk, OnErr};
+ghost use Rattle.std.specs.Prelude.{◌%◌, nat_eq, length, vec_len, vec_capacity, slice_get, Some, IfOk, OnOk, OnErr};
 ghost use Rattle.admission.specs.Reference.{smoother, adjusted};
 ghost use Rattle.admission.specs.Standing.{RiseWithin, AllRates, AllFrom, IsShare, completions, with_sample};
 ghost use Rattle.admission.specs.After.{TierFits};
 ghost use Rattle.admission.specs.InFlight.{due_of};
 ghost use Rattle.admission.specs.TierCalls.{Decides, Takes, StaysBeside, Moves, IsComplete, Shows, Foresees};
-ghost use Rattle.admission.specs.Running.{last_rate, next_control, with_due, when_rejected, finish_or};
+ghost use Rattle.admission.specs.Running.{last_rate, next_control, when_rejected, finish_or};
 
 use crate::in_flight::{InFlight, Response};
 use crate::{
@@ -22,8 +22,10 @@ use token_bucket::Bucket;
 #[derive(Drop)]
 pub(crate) struct Tier {
     policy: Policy,
-    /// The bucket at the tick of the tier's last offer, or of the last completion where that was later.
+    /// The bucket at the tick of the tier's last offer, or of its last control where that was later.
     bucket: Bucket,
+    /// The tick of the tier's last offer, or of the last completion where that was later.
+    clock: u64,
     /// The admitted requests whose responses aren't complete yet.
     pub(crate) in_flight: InFlight,
     /// How many responses are complete.
@@ -44,6 +46,7 @@ impl Model for Tier {
     ghost view = { λ t. record {
       rules = t.policy;
       bucket = t.bucket;
+      clock = t.clock;
       flight = t.in_flight;
       completed = t.completed;
       rejected = t.rejected;
@@ -54,6 +57,7 @@ impl Model for Tier {
     ghost invariant = { λ t. IsSoundTier (record {
       rules = t.policy;
       bucket = t.bucket;
+      clock = t.clock;
       flight = t.in_flight;
       completed = t.completed;
       rejected = t.rejected;
@@ -119,25 +123,11 @@ fn next_control(policy: Policy, controls: &[Control], percentile: u64, instant: 
     }
 }
 
-/// Makes a control where that many complete responses make one due.
-fn note_control(
-    policy: Policy,
-    window: &SampleWindow,
-    controls: &mut Vec<Control>,
-    completed: u64,
-    instant: u64,
-)
-    requires rates { AllRates controls.old.items }
-    requires room { vec_len controls.old < vec_capacity controls.old }
-    ensures controls { controls.new.items
-        ≡ with_due policy controls.old.items window.now.samples completed instant }
-    ensures rates { AllRates controls.new.items }
+/// Whether that many complete responses make a control due.
+fn is_due(policy: Policy, completed: u64) -> bool
+    ensures { result ≡ nat_eq (completed % policy.every) 0 }
 {
-    if completed % policy.numbers.every == 0 {
-        let percentile = window.percentile().unwrap_or(0);
-        let control = next_control(policy, controls, percentile, instant);
-        controls.push_reserved(control);
-    }
+    completed % policy.numbers.every == 0
 }
 
 /// Makes all the growths of a complete response: room for a control, and the sample in the window.
@@ -178,6 +168,7 @@ impl Tier {
         Ok(Tier {
             policy,
             bucket: Bucket::new(policy.numbers.depth, policy.numbers.rate),
+            clock: 0,
             in_flight: InFlight::new(alloc),
             completed: 0,
             rejected: 0,
@@ -210,21 +201,23 @@ impl Tier {
         requires within { response.completion ≤ MAX_TICK }
         requires few { self.old.flight.admitted ≤ MAX_OFFERS }
         ensures moves { Moves self.old response.completion self.new }
-        ensures fewer { OnOk result (self.new.flight
-            ≡ record { admitted = self.old.flight.admitted; responses = drop 1 self.old.flight.responses }) }
+        ensures fewer { OnOk result (self.new.flight ≡ record {
+          admitted = self.old.flight.admitted;
+          responses = drop 1 self.old.flight.responses;
+        }) }
     {
         grow(&mut self.window, &mut self.controls, response.sample)?;
         self.in_flight.take();
+        self.clock = response.completion;
         self.completed += 1;
-        note_control(
-            self.policy,
-            &self.window,
-            &mut self.controls,
-            self.completed,
-            response.completion,
-        );
+        if !is_due(self.policy, self.completed) {
+            return Ok(());
+        }
+        let percentile = self.window.percentile().unwrap_or(0);
+        let control = next_control(self.policy, &self.controls, percentile, response.completion);
         self.bucket.advance(response.completion);
-        self.bucket.set_rate(last_rate(self.policy, &self.controls));
+        self.bucket.set_rate(control.rate);
+        self.controls.push_reserved(control);
         Ok(())
     }
 
@@ -245,14 +238,15 @@ impl Tier {
         ensures fits { IfOk result (λ decision. Takes self.old tick delay decision self.new) }
         ensures share { OnOk result (StaysBeside self.old tick self.new) }
         ensures finish { IfOk result
-            (λ decision. (free ≤ finish_or free decision) × (finish_or free decision ≤ max free tick + service)) }
+            (λ decision. (free ≤ finish_or free decision)
+            × (finish_or free decision ≤ max free tick + service)) }
         ensures rules { OnOk result (self.new.rules ≡ self.old.rules) }
         ensures err { OnErr result (self.new ≡ self.old) }
     {
         let mut bucket = self.bucket;
         bucket.advance(tick);
         if !bucket.try_take() {
-            self.reject(bucket);
+            self.reject(bucket, tick);
             return Ok(Decision::Rejected);
         }
         // at most MAX_TICK + MAX_SERVICE * (MAX_OFFERS + 1), and with MAX_DELAY still less than 2^64
@@ -260,6 +254,7 @@ impl Tier {
         let completion = finish + delay;
         self.in_flight.add(completion, completion - tick)?;
         self.bucket = bucket;
+        self.clock = tick;
         Ok(Decision::Admitted { finish })
     }
 
@@ -286,7 +281,7 @@ impl Tier {
     /// `free` on.
     pub(crate) fn outlook(&self, free: u64, tick: u64) -> Outlook
         requires complete { IsComplete tick self.now }
-        requires forward { (self.now.bucket.tick ≤ tick) × (tick ≤ MAX_TICK) }
+        requires forward { (self.now.clock ≤ tick) × (tick ≤ MAX_TICK) }
         ensures finds { Foresees self.now free tick result }
         ensures free { result.free ≡ free }
     {
@@ -299,14 +294,16 @@ impl Tier {
         }
     }
 
-    /// Keeps the bucket that turned an offer away.
-    fn reject(&mut self, bucket: Bucket)
-        requires later { AllFrom bucket.tick (completions self.old.flight.responses) }
-        requires forward { self.old.bucket.tick ≤ bucket.tick }
+    /// Keeps the bucket that turned an offer away at this tick.
+    fn reject(&mut self, bucket: Bucket, tick: u64)
+        requires later { AllFrom tick (completions self.old.flight.responses) }
+        requires clock { bucket.tick ≡ tick }
+        requires forward { self.old.clock ≤ tick }
         requires room { self.old.rejected < MAX_OFFERS }
-        ensures { self.new ≡ when_rejected self.old bucket }
+        ensures { self.new ≡ when_rejected self.old bucket tick }
     {
         self.bucket = bucket;
+        self.clock = tick;
         self.rejected += 1;
     }
 }

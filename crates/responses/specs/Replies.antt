@@ -32,10 +32,6 @@ abbrev pub held_body : List File → Option ℕ → List ℕ
 held_body files None = []
 held_body files (Some file) = (file_of files file).bytes
 
--- the part of a reply that is no page: its head, and the line
-abbrev pub front_text : {X : Type 0} → List File → Slip X → List ℕ
-front_text files slip = head_text files slip ++ (if slip.head then [] else note_of slip.what)
-
 -- the body: none in the answer to HEAD
 abbrev pub body_text : {X : Type 0} → List File → Slip X → List ℕ
 body_text files slip = if slip.head then [] else content_of files slip.what

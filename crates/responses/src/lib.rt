@@ -13,6 +13,6 @@ mod slip;
 pub use devices::Failed as Write;
 pub use record::{write_record, write_reply};
 pub use rendering::HeadRenderer;
-pub use reply::{Reply, render, try_render};
+pub use reply::{Reply, render};
 pub use shared_page::SharedPage;
 pub use slip::{Given, OK_PLACE, Persistence, STATUS_CODES, Slip, Status};

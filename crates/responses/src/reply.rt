@@ -1,9 +1,9 @@
 //! A reply, rendered from its slip.
 
-ghost use Rattle.std.specs.Prelude.{◌≡◌, ◌≤◌, ◌+◌, ◌<◌, ◌^◌, ◌++◌, length, IfOk, IfErr, OnOk};
+ghost use Rattle.std.specs.Prelude.{◌≡◌, ◌≤◌, ◌+◌, ◌<◌, ◌^◌, ◌++◌, length, IfOk, OnOk};
 ghost use Rattle.paths.specs.Snapshots.{max_time};
 ghost use Rattle.responses.specs.Reference.{reply_text, head_text, status_of, status_text, content_of};
-ghost use Rattle.responses.specs.Replies.{OnlyHead, HasLocation, held_body, note_of, front_text, body_text};
+ghost use Rattle.responses.specs.Replies.{OnlyHead, HasLocation, held_body, note_of, body_text};
 ghost use Rattle.responses.specs.Messages.{IsReply};
 
 use crate::dates::Dates;
@@ -143,52 +143,4 @@ pub fn render<F: Tree>(alloc: Global, slip: Slip<F>) -> Result<Reply<F>, AllocEr
         front,
         page,
     })
-}
-
-/// The head of a slip's reply, and the body where it is no file's.
-fn render_front<F: Tree>(alloc: Global, slip: &Slip<F>) -> Result<Vec<u8>, AllocError>
-    requires { slip.now.date ≤ max_time }
-    ensures { IfOk result (λ front. front.items ≡ front_text F.files slip.now) }
-{
-    let mut front = render_head(alloc, slip)?;
-    if !slip.head {
-        push_note(&mut front, &slip.what)?;
-    }
-    Ok(front)
-}
-
-/// The reply of a slip whose front is rendered.
-fn with_page<F: Tree>(slip: Slip<F>, front: Vec<u8>) -> Reply<F>
-    requires { front.items ≡ front_text F.files slip }
-    ensures { result ≡ (slip.number, slip.conn, reply_text F.files slip) }
-{
-    let head = slip.head;
-    if head {
-        return Reply {
-            number: slip.number,
-            conn: slip.conn,
-            front,
-            page: None,
-        };
-    }
-    let page = shared_page(slip.what);
-    Reply {
-        number: slip.number,
-        conn: slip.conn,
-        front,
-        page,
-    }
-}
-
-/// The reply of a slip, or the slip again where memory ran out. It asks less than [`render`], and promises the text
-/// alone.
-pub fn try_render<F: Tree>(alloc: Global, slip: Slip<F>) -> Result<Reply<F>, Slip<F>>
-    requires date { slip.date ≤ max_time }
-    ensures text { IfOk result (λ r. r ≡ (slip.number, slip.conn, reply_text F.files slip)) }
-    ensures err { IfErr result (λ s. s ≡ slip) }
-{
-    match render_front(alloc, &slip) {
-        Ok(front) => Ok(with_page(slip, front)),
-        Err(_) => Err(slip),
-    }
 }

@@ -1,6 +1,6 @@
 use Rattle.std.proofs.Common.{◌≡◌, ◌+◌, ◌-◌, ◌≤◌, max, ◌∙◌, ap, arith}
 use Rattle.token_bucket.specs.Reference.{TOKEN}
-use Rattle.admission.specs.Standing.{Due, AllFrom, completions}
+use Rattle.admission.specs.Standing.{Due, completions}
 use Rattle.admission.proofs.HeapLemmas.{from-lower}
 use Rattle.admission.proofs.OfferLemmas.{short_of, enough_of, decision_rejected, decision_admitted, moved_fits, rejected_fits, admitted_fits}
 use Rattle.admission.proofs.SoundLemmas.{sound_admitted, share_admitted}
@@ -8,8 +8,7 @@ use Rattle.admission.proofs.tier.Tier.offer.Goals as goal
 
 pub reject-requires-clause-later : goal.reject-requires-clause-later
 reject-requires-clause-later c =
-    rw (c.try_take.ensures.tick, c.advance.ensures.tick)
-    (from-lower c.args.tick (c.args.tick + 1) (completions c.args.self.now.flight.responses) (omega arith) c.requires.share.2.complete)
+    from-lower c.args.tick (c.args.tick + 1) (completions c.args.self.now.flight.responses) (omega arith) c.requires.share.2.complete
 
 pub returns-then-not-try_take-clause-decision : goal.returns-then-not-try_take-clause-decision
 returns-then-not-try_take-clause-decision c past fits =
@@ -34,13 +33,11 @@ invariant_of-self-2 c =
       completion = c.max.result + c.args.service + c.args.delay;
       sample = c.max.result + c.args.service + c.args.delay - c.args.tick;
     } in
-    let at : c.try_take.new.self.tick ≡ c.args.tick = c.try_take.ensures.tick ∙ c.advance.ensures.tick in
-    let clock : c.self.inside.bucket.tick ≤ c.args.tick = share.clock in
-    let later : AllFrom c.try_take.new.self.tick (completions c.self.inside.in_flight.responses) =
-    rw at (from-lower c.args.tick (c.args.tick + 1) (completions c.self.inside.in_flight.responses) (omega arith) share.complete) in
     rw c.in_ok-add.ensures.ok
-    (sound_admitted _ c.try_take.new.self due c.self.invariant later (omega (arith, clock, at))
-    (let finish : c.max.result ≡ max c.args.free c.args.tick = c.max.ensures in omega (arith, at, finish)))
+    (sound_admitted _ c.try_take.new.self c.args.tick due c.self.invariant
+    (from-lower c.args.tick (c.args.tick + 1) (completions c.self.inside.in_flight.responses) (omega arith) share.complete)
+    (c.try_take.ensures.tick ∙ c.advance.ensures.tick) share.clock
+    (let finish : c.max.result ≡ max c.args.free c.args.tick = c.max.ensures in omega (arith, finish)))
 
 pub returns-clause-decision : goal.returns-clause-decision
 returns-clause-decision c past fits =
@@ -77,4 +74,4 @@ returns-clause-share c offers share =
     ap (λ n. n + c.args.service) c.max.ensures in
     rw c.in_ok-add.ensures.ok
     (share_admitted offers c.args.tick _ c.try_take.new.self due (rw (← c.self.view_is) at share)
-    (c.try_take.ensures.tick ∙ c.advance.ensures.tick) (omega (arith, finish, c.requires.work.0)))
+    (omega (arith, finish, c.requires.work.0)))
