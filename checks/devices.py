@@ -8,11 +8,11 @@ byte; the replies go into a pipe that is read byte by byte, or into one whose re
 into a file that may have only so many bytes, and replies onto a disk with little room (where one can be mounted: a
 user's own tmpfs). With a C compiler (CC, or cc) besides: each read gives one byte, each write takes one byte; each read
 fails in turn, then each write, by an error and by an interruption; no more reads are made than buffers of the inputs'
-sizes need; and each thread in turn can't be started, in small batches and in large ones. Of these one has work for
-threads that cut pieces and for those of the front floor, and three for threads of one kind alone, those that cut, of
-the front floor and of the back floor: each has to start some. (Whatever the machine has, the program is told of
-PROCESSORS processors.) What stands at a device is always a prefix of what is right, all of it where the status is 0,
-and a file that is full has all that it may have.
+sizes need; and each thread in turn can't be started, in small batches and in large ones: with work for threads that cut
+pieces and for both floors, and for one floor alone. Each replay has to start as many as its settings ask for, none
+where each floor has one worker. (Whatever the machine has, the program is told of PROCESSORS processors.) What stands
+at a device is always a prefix of what is right, all of it where the status is 0, and a file that is full has all that
+it may have.
 """
 import errno
 import os
@@ -38,9 +38,8 @@ SETTINGS = b"[policy]\ndepth = 50\n[floor]\nbatch = 100\n"
 LARGE = 6000
 LARGE_REQUEST = REQUEST.replace(b".txt", b".txt?" + b"x" * 2005)
 LARGE_SETTINGS = b"[policy]\ndepth = 50\n[floor]\nbatch = 8192\n"
-# Batches that are worth threads of one kind alone: one connection's pieces aren't shared by threads, nor is the work of
-# a floor with one worker. A back floor pays for 64 MiB of pages that aren't in the cache. Each comes after 256 pieces
-# that tell that floors pay.
+# Batches that are worth a floor with more than one worker; one connection's pieces aren't cut by threads. A back floor
+# pays for 64 MiB of pages that aren't in the cache. Each comes after 256 pieces that tell that floors pay.
 ALONE = b"[policy]\ndepth = 1000000\n[floor]\nbatch = 8192\n"
 NARROW_FRONT = b"front_cuts = [3]\nfront_workers = [1]\nfront_capacities = [64]\n"
 NARROW_BACK = b"back_cuts = [2]\nback_workers = [1]\nback_capacities = [64]\n"
@@ -296,14 +295,16 @@ def check_threads(checks, program, replay, task, shim):
 
 
 def staged_replays():
-    """Replays of the staged engine: what they have work for, and how many threads they start at least."""
+    """Replays of the staged engine: what they have work for, and how many threads they start at least. Each of the crew
+    is started at the beginning, one for each processor but the calling thread's; those that cut come with the work."""
     large = [LARGE_REQUEST] * LARGE
     files = [LARGE_REQUEST] * 256 + [REQUEST.replace(b"a.txt", b"b.txt")] * 70
-    yield "small batches", Replay([REQUEST] * 300), 0
-    yield "a large batch", Replay(large, LARGE_SETTINGS), 1
-    yield "cutting alone", Replay(large, ALONE + NARROW_FRONT + NARROW_BACK), 1
-    yield "the front floor alone", Replay([LONG_TARGET] * 1500, ALONE + NARROW_BACK, 1), 1
-    yield "the back floor alone", Replay(files, ALONE + NARROW_FRONT, 1, LARGE_FILE), 1
+    crew = PROCESSORS - 1
+    yield "small batches", Replay([REQUEST] * 300), crew
+    yield "a large batch", Replay(large, LARGE_SETTINGS), crew + 1
+    yield "the front floor alone", Replay([LONG_TARGET] * 1500, ALONE + NARROW_BACK, 1), crew
+    yield "the back floor alone", Replay(files, ALONE + NARROW_FRONT, 1, LARGE_FILE), crew
+    yield "one worker on each floor", Replay(large, ALONE + NARROW_FRONT + NARROW_BACK), 0
 
 
 def check_staged_threads(checks, program, shim):
@@ -312,7 +313,7 @@ def check_staged_threads(checks, program, shim):
         task = Task("staged, " + name, words(ENGINES[1]), b"", {"replies": replay.replies, "out": replay.report})
         count = check_threads(checks, program, replay, task, shim)
         print("%s: %d threads were refused in turn" % (name, count))
-        checks.see("threads of " + name, count >= least, count)
+        checks.see("threads of " + name, count >= least if least else count == 0, count)
 
 
 def check_poor(checks, program):

@@ -6,9 +6,10 @@
     checks/mutants.py --check                 compares each record with the sources, in seconds, as the gate does
 
 Each function is checked against the contracts of those that it calls, so wrong bodies of different functions don't
-disturb each other: a pass puts as many as stand in different functions into one copy of the crate, checks it once, past
-open goals, over what the crate's own check kept, and judges each by the goals of its function. What changes something
-else than a function's body gets a pass of its own, and so does what wasn't refused in a pass. The verdicts:
+disturb each other: a pass puts as many as stand in different functions into one copy of the crate, checks these
+functions once, past open goals, over what the crate's own check kept, and judges each by the goals of its function.
+What changes something else than a function's body gets a pass of its own, over the whole crate, and so does what wasn't
+refused in a pass. The verdicts:
 
   values           values are known at which a goal is false
   goal             a goal can't be proved: what a function ensures, what a call requires, an invariant, a loop, an index
@@ -45,7 +46,7 @@ MOST = 12  # in a pass, so that all processors have one, and little is lost wher
 REFUSED = ("values", "goal", "answer", "limit")
 UNKNOWN, ALIVE, BROKEN = "no verdict", "not refused", "doesn't compile"
 HEAD = re.compile(r"^( *)(?:pub(?:\(\w+\))? )?(?:const |unsafe )*fn (\w+)")
-IMPL = re.compile(r"^( *)impl(?:<.*?>)? (.*) \{$")
+IMPL = re.compile(r"^(?:impl(?:<.*?>)?|>) ([^(]*?)(?: where .*)?(?: \{)?$")
 OPEN = re.compile(r"^note: (?:\./)?(src/\S+?):(\d+):\d+: it is not proved that (.*)")
 FALSE = "allow values at which this goal is false"
 ERROR = re.compile(r"^(?:\./)?(proofs/\S+?\.antt):\d+:\d+: error: (?:`([^`]+)`: )?(.*)")
@@ -95,7 +96,7 @@ def bodies(text):
     for number, line in enumerate(lines, 1):
         impl, head = IMPL.match(line), HEAD.match(line)
         if impl:
-            kind = impl[2].split(" where ")[0]
+            kind = impl[1]
         elif line == "}":
             kind = ""
         if head and not line.rstrip().endswith(";"):
@@ -210,8 +211,12 @@ class Sites:
         own = [front + (it + "::" if it else "") for it in types]
         found = [it for it in self.names for top in own
                  if it == top + name or it.startswith("%sfn::%s::" % (top, name))]
-        # (an `impl` may stand in another module than its type, by whose module its functions are named)
-        return found or [it for it in self.names if any(it.endswith("::%s::%s" % (top, name)) for top in types if top)]
+        # (an `impl` may stand in another module than its type, by whose module its functions are named; one that is of
+        # some types alone has them in its name)
+        return (found
+                or [it for it in self.names if any(it.endswith("::%s::%s" % (top, name)) for top in types if top)]
+                or [it for it in self.names if it.startswith(tuple(front + top + "+" for top in types if top))
+                    and it.endswith("::" + name)])
 
     def of(self, mutant):
         """The functions whose bodies a mutant changes, as (file, first line, last line, names); None where it changes
@@ -229,6 +234,15 @@ class Sites:
             found += [site] if site not in found else []
             texts[path] = texts[path].replace(old, new)
         return found
+
+    def asked(self, mutants):
+        """What the checker is asked for: the functions whose bodies mutants change; all of them (none named) where one
+        changes something else."""
+        where = [self.of(mutant) for mutant in mutants]
+        if not all(where) or not all(names for sites in where for *_, names in sites):
+            return []
+        names = {name for sites in where for *_, names in sites for name in names if "::fn::" not in name}
+        return sorted(name.split("::", 1)[1] for name in names)
 
 
 def grouped(mutants, sites):
@@ -279,21 +293,31 @@ class Checker:
                     file.write(text)
         return room
 
-    def check(self, texts):
-        """What the checker says of the crate with these texts: its exit status and its lines."""
+    def check(self, texts, only=(), keep=False):
+        """What the checker says of the crate with these texts, or of these functions alone: its exit status and its
+        lines. What it checked is kept for the passes that follow, if asked for."""
         room = self.room(texts)
         try:
             with tempfile.TemporaryFile() as said:
-                ran = subprocess.Popen(["rt", "check", "--jobs", "1", "--allow-holes"], stdin=subprocess.DEVNULL,
-                                       stdout=said, stderr=subprocess.STDOUT,
+                words = [word for name in only for word in ("--only", name)]
+                ran = subprocess.Popen(["rt", "check", "--jobs", "1", "--allow-holes", *words],
+                                       stdin=subprocess.DEVNULL, stdout=said, stderr=subprocess.STDOUT,
                                        cwd=os.path.join(room, "crates", self.crate))
                 _, status, used = os.wait4(ran.pid, 0)
                 ran.returncode = os.waitstatus_to_exitcode(status)
                 self.seconds += used.ru_utime + used.ru_stime
                 said.seek(0)
+                if keep:
+                    self.keep(room)
                 return ran.returncode, said.read().decode(errors="replace").split("\n")
         finally:
             shutil.rmtree(room, ignore_errors=True)
+
+    def keep(self, room):
+        """Keeps what a check in a copy kept."""
+        here = os.path.join(self.folder, "out", "incremental")
+        shutil.rmtree(here, ignore_errors=True)
+        shutil.move(os.path.join(room, "crates", self.crate, "out", "incremental"), here)
 
 
 def linked(one, other):
@@ -379,7 +403,7 @@ class Trial:
                 if after is not None:
                     texts = after
                     kept.append(mutant)
-            status, lines = self.checker.check(texts)
+            status, lines = self.checker.check(texts, self.sites.asked(kept))
             self.passes += 1
             said = Said(lines)
             broken = kept if len(kept) == 1 else self.broken(kept, said)
@@ -408,7 +432,7 @@ class Trial:
         mutants = [it for it in self.table["mutant"] if not self.tried(it)]
         if not mutants:
             return
-        status, lines = self.checker.check(self.checker.texts)
+        status, lines = self.checker.check(self.checker.texts, keep=True)
         said = Said(lines)
         if status or not said.is_whole() or set(map(said.verdict_of, said.states.values())) != {ALIVE}:
             raise SystemExit("%s isn't proved as it stands:\n%s" % (self.crate, "\n".join(lines[-20:])))

@@ -12,10 +12,10 @@ such an answer (NAMES) makes one, but in a type, in a pattern and beside `==`, w
 - where one is passed on: in an arm without a guard whose pattern has one in each alternative; in an arm or an `if`
   whose whole condition is that a fault is one.
 
-Each other place stands in REASONS, by its file, its function and its line, for one mention. Refused besides are another
-name for such an answer, `fmt::Error` (of which a text's `format!` makes one), and a request whose size is a constant
-above MOST. Exits with 1 where something is refused, or where a list names what isn't there. checks/test_refusals.py
-plants what has to be refused.
+Each other place stands in REASONS, by its file, its function and its line, with a reason for each mention. Refused
+besides are another name for such an answer, `fmt::Error` (of which a text's `format!` makes one), and a request whose
+size is a constant above MOST. Exits with 1 where something is refused, or where a list names what isn't there.
+checks/test_refusals.py plants what has to be refused.
 """
 import bisect
 import collections
@@ -65,12 +65,19 @@ REASONS = {
     ("settings/src/config_fault.rt", "MEMORY", "kind: ConfigFaultKind::Memory,"): "the name of this answer",
     ("stage_graph/src/floor.rt", "open", "return Err(Memory);"):
         "a sum of events that no 64 bits hold can't be reserved",
-    ("stage_graph/src/lot_gate.rt", "after", "None => Err(AllocError),"):
-        "more numbers than 64 bits count can't be passed to the gate",
-    ("stage_graph/src/lots.rt", "items_of", "return Err(Unrun::Memory);"):
-        "a lot of which a step was refused memory came back without its items",
-    ("stage_graph/src/run.rt", "ended", "return Err(Unrun::Memory);"):
-        "no thread could be started, which counts as that",
+    ("stage_graph/src/crew/passage.rt", "run", "return Err(Unrun::Memory);"):
+        "a sum of items that no 64 bits hold: no memory holds so many",
+    ("stage_graph/src/crew/passage.rt", "taken_out", "return Err(Unrun::Memory);"): [
+        "the place of a lot that has no note: no floor ends with more items than were laid on it",
+        "a lot that isn't the noted one, or of which a step was refused memory: neither is among a floor's done items",
+        "fewer lots than were noted: no floor ends as a run without all its items"],
+    ("stage_graph/src/crew/sections.rt", "end", "return Err(Unrun::Memory);"): [
+        "no floor on the desk: one thread lays one and takes it back",
+        "another floor than was laid: the same",
+        "a worker that may not leave: the calling thread takes a floor back that has ended"],
+    ("stage_graph/src/notes.rt", "note", "return Err(AllocError);"): [
+        "more values than are noted in any time",
+        "a register that is longer than its one holder knows: it alone adds to it"],
 }
 
 
@@ -336,19 +343,24 @@ def answers(sources):
                 yield from ((source, item, at, False) for at, value in body.sizes() if value > MOST)
 
 
+def listed():
+    """How many mentions are listed, by their places."""
+    return collections.Counter({place: 1 if isinstance(why, str) else len(why) for place, why in REASONS.items()})
+
+
 def judged(texts):
     """The places that are refused, as lines, of sources by their files; and how many there are, and are listed."""
-    sources, used, wrong, count = Sources(texts), set(), [], 0
+    sources, left, wrong, count = Sources(texts), listed(), [], 0
     for source, item, at, is_well in answers(sources):
         count += 1
         place = (source.path, item.name, source.line(at))
-        if not is_well and place in REASONS and place not in used:
-            used.add(place)
+        if not is_well and left[place]:
+            left[place] -= 1
         elif not is_well:
             wrong.append("%s: %s: %s" % place)
-    wrong += ["%s: %s: %s: listed, and not there" % place for place in REASONS if place not in used]
+    wrong += ["%s: %s: %s: listed, and not there" % place for place in left.elements()]
     wrong += ["%s::%s: listed, and not called" % call for call in CALLS if call not in sources.called]
-    return wrong, count, len(used)
+    return wrong, count, listed().total() - left.total()
 
 
 def read_all():
@@ -363,8 +375,8 @@ def read_all():
 
 
 def main():
-    wrong, count, listed = judged(read_all())
-    print("\n".join(wrong + ["%d places (%d listed), %d wrong" % (count, listed, len(wrong))]))
+    wrong, count, known = judged(read_all())
+    print("\n".join(wrong + ["%d places (%d listed), %d wrong" % (count, known, len(wrong))]))
     return int(bool(wrong))
 
 

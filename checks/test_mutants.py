@@ -43,6 +43,14 @@ def run(copy, *words):
     return ran.returncode, ran.stdout + ran.stderr
 
 
+def test_the_type_of_a_function(monkeypatch):
+    monkeypatch.syspath_prepend(os.path.join(TOP, "checks"))
+    import mutants
+    text = "impl<\n    A,\n    B: Copy,\n> Read for Pair<A, B>\nwhere\n    A: Copy,\n{\n    fn one(&self) -> u8 {\n        1\n" \
+           "    }\n}\n\nfn two<\n    A,\n>(\n    a: A,\n) {\n}\n"
+    assert [it[:2] for it in mutants.bodies(text)] == [("one", "Read for Pair<A, B>"), ("two", "")]
+
+
 def test_a_crate_that_is_not_there(copy):
     status, said = run(copy, "buckets")
     assert status == 2 and "no table of mutants for a crate buckets" in said

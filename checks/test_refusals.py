@@ -49,6 +49,8 @@ WRONG = [
      "        Err(refused) => return Err(refused),\n    }\n"),
     ("a listed line, a second time", "http_requests/src/cutting.rt", CUT_FAILED,
      CUT_FAILED + "        if piece.is_empty() {\n            return Err(AllocError);\n        }\n"),
+    ("a listed line, once more than listed", "stage_graph/src/crew/passage.rt", "    if lots.len() != notes.len() {\n",
+     "    if done > 9 {\n        return Err(Unrun::Memory);\n    }\n    if lots.len() != notes.len() {\n"),
     ("another line of a listed function", "http_requests/src/cutting.rt", CUT_FAILED,
      CUT_FAILED + "        piece.first().ok_or(AllocError)?;\n"),
     ("a listed line, elsewhere", PARTS, BEGIN, BEGIN + "    if origin > 9 {\n        return Err(AllocError);\n    }\n"),
@@ -135,8 +137,8 @@ def judged(texts, path, old, new):
 
 
 def test_as_they_stand(texts):
-    wrong, count, listed = refusals.judged(texts)
-    assert not wrong and listed == len(refusals.REASONS) < count
+    wrong, count, known = refusals.judged(texts)
+    assert not wrong and known == refusals.listed().total() < count
 
 
 @pytest.mark.parametrize("path, old, new", [row[1:] for row in WRONG], ids=[row[0] for row in WRONG])
@@ -152,5 +154,6 @@ def test_right(texts, path, old, new):
 
 def test_lists(texts):
     """What is listed and isn't there is told."""
-    new = judged(texts, "stage_graph/src/lot_gate.rt", "None => Err(AllocError),", "None => Ok(0),")
-    assert new == ["stage_graph/src/lot_gate.rt: after: None => Err(AllocError),: listed, and not there"]
+    first = "        if number >= MOST {\n            return Err(AllocError);\n"
+    new = judged(texts, "stage_graph/src/notes.rt", first, first.replace("return Err(AllocError);", "self.add(1);"))
+    assert new == ["stage_graph/src/notes.rt: note: return Err(AllocError);: listed, and not there"]

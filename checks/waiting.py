@@ -1,15 +1,15 @@
 #!/usr/bin/env python3
-"""Checks sleeping and waking on models of a floor and of a pool, for small floors: no hang and no lost wake-up.
+"""Checks sleeping and waking on a model of a crew, for small floors: no hang and no lost wake-up.
 
     checks/waiting.py [--mirrored]
 
-The models, for SPIN (Debian's `spin`, with `gcc`), are waiting.pml and pool.pml in crates/stage_graph/model/: of
-`run_floor`, and of the pool of threads by which `run_through` runs a floor of lots. Each floor of FLOORS, and each pool
-of POOLS, is explored in all its interleavings: it has no state in which a thread sleeps for good, and at its end all
-items are done, or it was stopped with every hand empty. Each fault of FAULTS and POOL_FAULTS, a bug put into the model,
-breaks this there, so that the model can tell; those of HARMLESS don't. The functions that the models mirror are known
-by a hash: where one has changed, the models have to be looked at first, and then MIRRORED be set to what --mirrored
-prints. Exits with 1 where something is otherwise. It takes about half a minute on four cores.
+The model, for SPIN (Debian's `spin`, with `gcc`), is crew.pml in crates/stage_graph/model/: of threads that move one
+floor after another, also before a gate that may hold a lot; its head lists the words of a floor. Each floor of FLOORS
+is explored in all its interleavings: it has no state in which a thread sleeps for good, and at its end all lots are
+done, or it was stopped with every hand empty. Each fault of FAULTS, a bug put into the model, breaks this there, so
+that the model can tell. The functions that the model mirrors are known by a hash: where one has changed, the model has
+to be looked at first, and then MIRRORED be set to what --mirrored prints. Exits with 1 where something is otherwise. It
+takes about half a minute on four cores.
 """
 import argparse
 import concurrent.futures
@@ -22,71 +22,40 @@ import tempfile
 
 TOP = os.path.dirname(os.path.dirname(os.path.abspath(__file__)))
 CRATE = os.path.join(TOP, "crates", "stage_graph")
-FLOOR, POOL = "waiting.pml", "pool.pml"
-SOURCES = ["run.rt", "run/locked.rt", "run/pool.rt", "run/shared.rt", "run/sleepers.rt", "run/visit.rt",
-           "floor/causes.rt", "floor/events.rt"]
-MIRRORED = "9b29b88db70e7cbd"
+MODEL = os.path.join(CRATE, "model", "crew.pml")
+SOURCES = ["run.rt", "crew.rt", "crew/desk.rt", "crew/sections.rt", "floor/causes.rt", "floor/events.rt",
+           "floor/held.rt"]
+MIRRORED = "7c56f2254542d09a"
 FLOORS = [
-    "S=1 W0=2 C0=1 N=3 SPUR=1",
-    "S=1 W0=3 C0=2 N=3 COUNTS",
-    "S=2 W0=1 W1=1 C0=1 C1=1 N=3 SPUR=1 COUNTS",
-    "S=2 W0=2 W1=1 C0=1 C1=1 N=3",
-    "S=2 W0=1 W1=2 C0=1 C1=1 N=3",
-    "S=2 W0=2 W1=2 C0=2 C1=1 N=3",
-    "S=2 W0=1 W1=1 C0=1 C1=1 N=2 SPUR=1 REFUSE NOSTART",
-    "S=1 W0=2 C0=1 N=2 SPUR=1 REFUSE NOSTART",
-    "S=3 W0=1 W1=1 W2=1 C0=1 C1=1 C2=1 N=3",
-    "S=2 W0=1 W1=2 C0=1 C1=2 N=4 GATE=1 NEED=2",
+    "S=1 W0=2 C0=1 N=3 T=2 FLOORS=2 SPUR=1 REFUSE ERROR",
+    "S=2 W0=1 W1=1 C0=1 C1=1 N=3 T=1 FLOORS=2 REFUSE ERROR",
+    "S=2 W0=1 W1=1 C0=1 C1=1 N=2 T=4 FLOORS=1",
+    "S=2 W0=2 W1=2 C0=2 C1=1 N=4 T=3 FLOORS=1 REFUSE",
+    "S=3 W0=1 W1=2 W2=1 C0=1 C1=2 C2=1 N=4 T=2 FLOORS=2 SPUR=1 REFUSE ERROR",
+    "S=1 W0=2 C0=2 N=3 T=2 FLOORS=2 SPUR=1 REFUSE HOLDS MEET",
+    "S=2 W0=2 W1=1 C0=1 C1=1 N=3 T=3 FLOORS=1 HOLDS MEET LEAVE",
+    "S=3 W0=1 W1=1 W2=1 C0=1 C1=1 C2=1 N=3 T=2 FLOORS=2 SPUR=1 REFUSE HOLDS",
 ]
 FAULTS = [
-    ("NO_DRAINED", "S=1 W0=2 C0=1 N=2"),
-    ("DRAINED_AT_TAKE", "S=1 W0=3 C0=1 N=3"),
-    ("ONE_LESS", "S=2 W0=1 W1=1 C0=1 C1=1 N=3"),
-    ("UNCOUNTED", "S=2 W0=1 W1=1 C0=1 C1=1 N=3"),
-    ("OVERCOUNT", "S=2 W0=2 W1=1 C0=2 C1=1 N=3"),
-    ("LATE_WAIT", "S=2 W0=1 W1=1 C0=1 C1=1 N=3"),
-    ("EARLY", "S=2 W0=1 W1=1 C0=1 C1=1 N=3"),
-    ("OWN_STAGE", "S=2 W0=1 W1=1 C0=1 C1=1 N=3"),
-    ("ROOM_BELOW_HALF", "S=2 W0=1 W1=1 C0=1 C1=1 N=3"),
-    ("BACK_SILENT", "S=2 W0=1 W1=1 C0=1 C1=1 N=3 REFUSE"),
-    ("HALT_SILENT", "S=1 W0=2 C0=1 N=2 NOSTART"),
+    ("CLOSE_SILENT", "S=2 W0=1 W1=1 C0=1 C1=1 N=3 T=2 FLOORS=2"),
+    ("ROOM_SILENT", "S=2 W0=1 W1=1 C0=1 C1=1 N=3 T=2 FLOORS=1"),
+    ("OVER_SILENT", "S=2 W0=1 W1=1 C0=1 C1=1 N=3 T=2 FLOORS=1"),
+    ("BACK_SILENT", "S=2 W0=2 W1=1 C0=1 C1=1 N=4 T=3 FLOORS=1 REFUSE"),
+    ("NO_CLOSE", "S=1 W0=2 C0=1 N=3 T=2 FLOORS=1"),
+    ("OVER_EARLY", "S=1 W0=2 C0=1 N=3 T=2 FLOORS=1"),
+    ("FIRST_STAGE", "S=2 W0=2 W1=1 C0=2 C1=1 N=4 T=2 FLOORS=1"),
+    ("LATE_WAIT", "S=1 W0=2 C0=1 N=3 T=2 FLOORS=1"),
+    ("LOST_CROWD", "S=2 W0=2 W1=1 C0=1 C1=1 N=4 T=3 FLOORS=1"),
+    ("FREE_SILENT", "S=1 W0=2 C0=2 N=3 T=2 FLOORS=1 HOLDS MEET"),
+    ("LOST_CALL", "S=2 W0=2 W1=1 C0=1 C1=1 N=4 T=3 FLOORS=1 HOLDS MEET LEAVE"),
 ]
-POOLS = [
-    "S=1 W0=2 C0=1 N=3 T=2 SPUR=1 REFUSE NOSTART",
-    "S=1 W0=4 C0=3 N=4 T=4 STOP NOSTART",
-    "S=2 W0=1 W1=1 C0=1 C1=1 N=3 T=2 SPUR=2 REFUSE NOSTART",
-    "S=2 W0=2 W1=1 C0=2 C1=1 N=5 T=3 SPUR=1 REFUSE",
-    "S=2 W0=3 W1=1 C0=3 C1=2 N=5 T=4 REFUSE NOSTART",
-    "S=2 W0=1 W1=2 C0=1 C1=2 N=4 T=3 STOP NOSTART",
-    "S=2 W0=2 W1=2 C0=4 C1=3 N=5 T=4 STOP",
-    "S=3 W0=1 W1=1 W2=1 C0=1 C1=1 C2=1 N=4 T=3 SPUR=1 REFUSE NOSTART",
-    "S=3 W0=1 W1=2 W2=1 C0=1 C1=2 C2=4 N=5 T=4 NOSTART",
-    "S=3 W0=2 W1=1 W2=2 C0=2 C1=1 C2=3 N=5 T=4 REFUSE",
-    "S=3 W0=2 W1=2 W2=1 C0=4 C1=3 C2=2 N=5 T=3 SPUR=1 STOP",
-]
-POOL_FAULTS = [
-    ("NO_ROOM_WOKEN", "S=2 W0=2 W1=1 C0=2 C1=1 N=4 T=3"),
-    ("ROOM_BELOW_HALF", "S=2 W0=2 W1=1 C0=2 C1=1 N=4 T=3"),
-    ("ROOM_ONE", "S=2 W0=3 W1=1 C0=3 C1=2 N=5 T=4"),
-    ("FIRST_STAGE", "S=2 W0=2 W1=1 C0=2 C1=1 N=4 T=2"),
-    ("UNFED", "S=2 W0=2 W1=1 C0=2 C1=1 N=4 T=3"),
-    ("ENDS_HOLDING", "S=2 W0=2 W1=1 C0=2 C1=1 N=4 T=3"),
-    ("SLEEPS_STOPPED", "S=2 W0=2 W1=1 C0=2 C1=1 N=4 T=3 REFUSE"),
-    ("ONE_LESS", "S=2 W0=2 W1=1 C0=2 C1=1 N=4 T=3"),
-    ("UNCOUNTED", "S=2 W0=2 W1=1 C0=2 C1=1 N=4 T=3"),
-    ("OVERCOUNT", "S=2 W0=2 W1=1 C0=2 C1=1 N=4 T=3"),
-    ("LATE_WAIT", "S=2 W0=2 W1=1 C0=2 C1=1 N=4 T=3"),
-    ("BACK_SILENT", "S=2 W0=2 W1=1 C0=2 C1=1 N=4 T=3 REFUSE"),
-    ("HALT_SILENT", "S=2 W0=2 W1=1 C0=2 C1=1 N=4 T=4 NOSTART"),
-]
-HARMLESS = [("DRAINED_AT_GIVE", "S=1 W0=2 C0=1 N=3"), ("DRAINED_WITH_NEXT", "S=1 W0=2 C0=1 N=3")]
 SECONDS = 120
 FUNCTION = re.compile(r"^( *)(?:pub(?:\([a-z]+\))? )?fn \w+.*?^\1}$", re.MULTILINE | re.DOTALL)
 CLAUSE = re.compile(r"^ *(?:requires|ensures)\*? .*?\}$(?=\n *(?:requires|ensures|//|\{))", re.MULTILINE | re.DOTALL)
 
 
 def mirrored():
-    """A hash of the functions that the models mirror, without comments and contracts."""
+    """A hash of the functions that the model mirrors, without comments and contracts."""
     text = ""
     for name in SOURCES:
         with open(os.path.join(CRATE, "src", name), encoding="utf-8") as file:
@@ -95,16 +64,16 @@ def mirrored():
     return hashlib.sha256("".join(text.split()).encode()).hexdigest()[:16]
 
 
-def explore(model, floor, fault=None):
-    """Whether a model of this floor, with this fault, has no hang; None where it wasn't explored to its end."""
+def explore(floor, fault=None):
+    """Whether the model of this floor, with this fault, has no hang; None where it wasn't explored to its end."""
     words = ["-D" + word for word in floor.split()] + (["-DM_" + fault] if fault else [])
     with tempfile.TemporaryDirectory() as folder:
         def run(*command):
             return subprocess.run(command, cwd=folder, capture_output=True, text=True, timeout=SECONDS)
 
-        if run("spin", *words, "-a", os.path.join(CRATE, "model", model)).returncode:
+        if run("spin", *words, "-a", MODEL).returncode:
             return None
-        if run("gcc", "-O2", "-DSAFETY", "-DCOLLAPSE", "-DNOREDUCE", "-DMEMLIM=2000", "-o", "pan", "pan.c").returncode:
+        if run("gcc", "-DSAFETY", "-DCOLLAPSE", "-DNOREDUCE", "-DMEMLIM=2000", "-o", "pan", "pan.c").returncode:
             return None
         told = run("./pan", "-m2000000", "-w22").stdout
     errors = re.search(r"errors: (\d+)", told)
@@ -121,20 +90,15 @@ def main():
         return 0
     wrong = []
     if mirrored() != MIRRORED:
-        wrong.append("the functions that the models mirror have changed: look at crates/stage_graph/model/")
-    wanted = [(FLOOR, floor, None, True) for floor in FLOORS] + [(POOL, pool, None, True) for pool in POOLS]
-    wanted += [(FLOOR, floor, fault, False) for fault, floor in FAULTS]
-    wanted += [(POOL, pool, fault, False) for fault, pool in POOL_FAULTS]
-    wanted += [(FLOOR, floor, fault, True) for fault, floor in HARMLESS]
+        wrong.append("the functions that the model mirrors have changed: look at crates/stage_graph/model/")
+    wanted = [(floor, None) for floor in FLOORS] + [(floor, fault) for fault, floor in FAULTS]
     with concurrent.futures.ThreadPoolExecutor(os.cpu_count()) as pool:
-        found = list(pool.map(lambda case: explore(*case[:3]), wanted))
-    for (model, floor, fault, good), is_good in zip(wanted, found):
-        if is_good != good:
+        found = list(pool.map(lambda case: explore(*case), wanted))
+    for (floor, fault), is_good in zip(wanted, found):
+        if is_good != (fault is None):
             said = {True: "no hang", False: "a hang", None: "not explored to its end"}[is_good]
-            wrong.append("%s %s%s: %s" % (model, floor, " with " + fault if fault else "", said))
-    faults = len(FAULTS) + len(POOL_FAULTS) + len(HARMLESS)
-    print("\n".join(wrong + ["%d floors, %d pools, %d faults, %d wrong"
-                             % (len(FLOORS), len(POOLS), faults, len(wrong))]))
+            wrong.append("%s%s: %s" % (floor, " with " + fault if fault else "", said))
+    print("\n".join(wrong + ["%d floors, %d faults, %d wrong" % (len(FLOORS), len(FAULTS), len(wrong))]))
     return int(bool(wrong))
 
 

@@ -277,7 +277,10 @@ fn long_targets_without_a_gate(rt: HostRuntime) {
     assert!(rt; staged.text.ends_with(b"\n\nstop 416\n".as_slice()));
 }
 
-/// A gate that notes how many messages enter the back floor together: until one of them leaves its first stage.
+/// The stage of the back floor, where each floor has one.
+const BACK: usize = 1;
+
+/// A gate that notes how many messages enter the stage of the back floor together: until one of them leaves it.
 #[derive(Drop)]
 struct Together<R: Wait + Drop> {
     rt: R,
@@ -287,14 +290,14 @@ struct Together<R: Wait + Drop> {
 
 impl<R: Wait + Drop> Gate for Together<R> {
     fn enter(&self, stage: usize, _number: usize) {
-        if stage == DEFAULT_SHAPE.front.len() {
+        if stage == BACK {
             self.entered.fetch_add(1, Ordering::SeqCst);
         }
     }
 
     fn left(&self, stage: usize, _number: usize) {
         let entered = self.entered.load(Ordering::SeqCst);
-        if stage == DEFAULT_SHAPE.front.len() && entered > 0 {
+        if stage == BACK && entered > 0 {
             self.entered.store(0, Ordering::SeqCst);
             let _refused = self.counts.lock(&self.rt).push(entered as usize);
         }
@@ -329,7 +332,7 @@ fn two_files(alloc: Global, file: &str) -> Result<String, AllocError> {
     format!(in alloc; "haboob-snapshot 1\nfile 0 1 1\na\nb\nfile 0 1 {bytes}\nb\n{file}\nend 2\n")
 }
 
-/// Replays these behind a gate, where `b` has these bytes; how many bytes were written.
+/// Replays these behind a gate by one thread, where `b` has these bytes; how many bytes were written.
 fn run_targets<G: Gate + Sync, R: Abort + AllocGlobal + Threads + Wait + Sync>(
     rt: &R,
     gate: &G,
@@ -337,7 +340,14 @@ fn run_targets<G: Gate + Sync, R: Abort + AllocGlobal + Threads + Wait + Sync>(
 ) -> usize {
     let files = two_files(rt.alloc(), file).expect(rt, "memory");
     let capture = two_targets(rt.alloc()).expect(rt, "memory");
-    let settings = in_batches(rt, 64);
+    let shape = Shape {
+        front: &[3],
+        back: &[2],
+        workers: 1,
+        batch: 64,
+        ..DEFAULT_SHAPE
+    };
+    let settings = default_settings(rt.alloc(), shape).expect(rt, "settings");
     let bytes = capture.as_bytes();
     let ran = run_engine(
         rt,
@@ -351,7 +361,7 @@ fn run_targets<G: Gate + Sync, R: Abort + AllocGlobal + Threads + Wait + Sync>(
     ran.expect(rt, "a snapshot").text.len()
 }
 
-/// How many messages travel together over the back floor, of these 64 by one thread, where `b` has n bytes.
+/// How many of these 64 messages travel together over the back floor, where `b` has n bytes.
 fn travelling<R: Abort + AllocGlobal + Threads + Wait + Sync + Drop>(
     rt: &R,
     waiting: R,
@@ -368,16 +378,14 @@ fn travelling<R: Abort + AllocGlobal + Threads + Wait + Sync + Drop>(
     gate.counts.into_inner()
 }
 
-/// Two messages travel together, since there are 32 lots of 64; but a page of more than 16,384 bytes is the last of its
-/// lot.
+/// Seventeen of 64 messages travel together where one thread works, one more than a quarter; but a page of more than
+/// 16,384 bytes is the last of its lot.
 #[test]
-fn large_pages_travel_alone(rt: HostRuntime) {
+fn large_pages_end_their_lots(rt: HostRuntime) {
     let small = travelling(&rt, rt.clone().expect(&rt, "memory"), 16_384);
-    assert_eq!(rt; small.as_slice(), [2usize; 32].as_slice());
+    assert_eq!(rt; small.as_slice(), [17, 17, 17, 13usize].as_slice());
     let large = travelling(&rt, rt.clone().expect(&rt, "memory"), 16_385);
-    let pairs = large.iter().filter(|count| **count == 2).count();
-    let alone = (large.get(5).copied(), large.get(32).copied());
-    assert_eq!(rt; (large.len(), pairs, alone), (33, 31, (Some(1), Some(1))));
+    assert_eq!(rt; large.as_slice(), [11, 2, 17, 17, 17usize].as_slice());
 }
 
 /// Gives one record a read, and notes how much was written when the last line is asked for.

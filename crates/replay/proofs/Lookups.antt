@@ -1,7 +1,7 @@
 -- What is known of the items of both floors.
-use Rattle.std.proofs.Common.{◌≡◌, ℕ, zero, suc, ◌+◌, List, [], ◌∷◌, ◌++◌, ◌≤◌, nat_le, length, drop, map, refl, sym, ap, ◌∙◌, arith, add-one}
+use Rattle.std.proofs.Common.{◌≡◌, ℕ, zero, suc, List, [], ◌∷◌, ◌++◌, ◌≤◌, nat_le, map, refl, sym, ap, subst, ◌∙◌, arith}
 use Rattle.std.specs.Prelude.{flat_map, Bool, true, false, ◌&&◌, Option, nat_lt, if◌then◌else◌}
-use Rattle.std.specs.List.{range_with_len, list_all}
+use Rattle.std.specs.List.{list_all}
 use Rattle.replay.specs.declared.pending.PendingReply.{PendingReply}
 use Rattle.replay.specs.declared.back.BackState.{BackState}
 use Rattle.replay.specs.declared.back.BackState.TheVariants.{Due as Waits, Fetched, Rendered}
@@ -13,10 +13,11 @@ use Rattle.responses.specs.Reference.{reply_text}
 use Rattle.responses.specs.Replies.{OnlyHead, HasLocation}
 use Rattle.replay.specs.declared.pending.Due.{Due}
 use Rattle.replay.specs.declared.pending.Due.TheVariants.{Page, Ready}
-use Rattle.replay.specs.Backs.{only_head, has_location, can_render, is_due, is_back, due_at, reply_in, reply_to, back_after, back_step, slip_of_pending, given_by, given_elsewhere, due_elsewhere, pending_elsewhere, slip_elsewhere, elsewhere}
+use Rattle.replay.specs.Backs.{only_head, has_location, can_render, is_due, is_back, reply_in, reply_to, back_after, back_step, slip_of_pending, given_by, given_elsewhere, due_elsewhere, pending_elsewhere, slip_elsewhere, elsewhere}
 use Rattle.std.proofs.lemmas.Bool.{leb-true}
 use Rattle.std.proofs.lemmas.Grind.{flat_map-append}
-use Rattle.std.proofs.lemmas.List.{map-append}
+use Rattle.std.proofs.lemmas.List.{map-append, append_assoc}
+use Rattle.stage_graph.specs.Crews.{AreSized}
 use Rattle.stage_graph.specs.Steps.{value_of}
 use Rattle.paths.specs.declared.file.File.{File}
 use Rattle.paths.proofs.Locations.{outcome_is}
@@ -31,7 +32,7 @@ use Rattle.paths.specs.Reference.{asked, outcome}
 use Rattle.paths.specs.declared.resolution.Outcome.{Outcome}
 use Rattle.http_requests.specs.declared.messages.HttpVersion.{HttpVersion}
 use Rattle.reference.specs.Reference.{is_head, answers_head, is_unmodified_file, length_given}
-use Rattle.replay.specs.Fronts.{each_looked_up, floor_lookup, floor_step, front_value, seen_as, lookup_of, unseen, unseen_at, IsLookup}
+use Rattle.replay.specs.Fronts.{floor_lookup, floor_step, front_value, seen_as, lookup_of, unseen, IsLookup}
 
 abbrev pub looked_up : Incoming → Lookup → LookedUp
 looked_up message lookup = record { message = message; lookup = lookup }
@@ -46,13 +47,6 @@ one_lookup files tariff k (Request method target version closing since) (Found o
     priced_or_not true = h
     priced_or_not false = h
 one_lookup files tariff k (Request method target version closing since) (Priced o cost) h = h
-
--- an outcome that an item has found is one of the files'
-pub lookup_is : (files : List File) (tariff : Tariff) (messages : List Incoming) (number k : ℕ) → IsLookup files (value_of (floor_step files tariff) k (unseen_at messages number)).lookup
-lookup_is files tariff messages number zero = tt
-lookup_is files tariff messages number (suc k) =
-    let v = value_of (floor_step files tariff) k (unseen_at messages number) in
-    one_lookup files tariff k v.message.what v.lookup (lookup_is files tariff messages number k)
 
 pub as_it_is : (files : List File) (s : Lookup) → IsLookup files (seen_as files s) → IsLookup files s
 as_it_is files Unseen h = tt
@@ -91,53 +85,33 @@ all_known files tariff message lookup (x ∷ xs) (m ∷ ms) e =
     let all = all_known files tariff message lookup xs ms rest in
     rw (one, all) refl
 
--- the sights of what is known
-pub lookups_alone : {X : Type 0} (files : List File) (tariff : Tariff) (message : X → Incoming) (lookup : X → Lookup) (xs : List X) (ms : List Incoming)
-    → map (λ x. looked_up (message x) (lookup x)) xs ≡ map (front_value files tariff) ms → each_looked_up ms (map lookup xs) ≡ map (front_value files tariff) ms
-lookups_alone files tariff message lookup [] [] e = refl
-lookups_alone files tariff message lookup [] (m ∷ ms) e = absurd (let z : ⊥ = grind (arith, e) in z)
-lookups_alone files tariff message lookup (x ∷ xs) [] e = absurd (let z : ⊥ = grind (arith, e) in z)
-lookups_alone files tariff message lookup (x ∷ xs) (m ∷ ms) e =
-    let first : looked_up (message x) (lookup x) ≡ front_value files tariff m = cc in
-    let rest : map (λ y. looked_up (message y) (lookup y)) xs ≡ map (front_value files tariff) ms = cc in
-    let own : looked_up m (lookup x) ≡ front_value files tariff m = ap (λ (v : LookedUp). looked_up m v.lookup) first in
-    rw (own, lookups_alone files tariff message lookup xs ms rest) refl
-
-pub same_values : (files : List File) (tariff : Tariff) (ms : List Incoming) → map (λ m. value_of (floor_step files tariff) 3 (unseen m)) ms ≡ map (front_value files tariff) ms
+pub same_values : (files : List File) (tariff : Tariff) (ms : List Incoming) → map (value_of (floor_step files tariff) 3) (map unseen ms) ≡ map (front_value files tariff) ms
 same_values files tariff [] = refl
-same_values files tariff (m ∷ ms) = rw (same_value files tariff m, same_values files tariff ms) refl
+same_values files tariff (m ∷ ms) =
+    ap (λ v. v ∷ map (value_of (floor_step files tariff) 3) (map unseen ms)) (same_value files tariff m) ∙ ap (λ vs. front_value files tariff m ∷ vs) (same_values files tariff ms)
 
--- one more step
-pub value_more : {V : Type 0} (step : ℕ → V → V) (k : ℕ) (x : V) → value_of step (k + 1) x ≡ step k (value_of step k x)
-value_more step k x =
-    let e : k + 1 ≡ suc k = omega arith in
-    rw e refl
+-- ---- lots of items
 
--- what follows the first of the rest of a list
-pub drop_next : {X : Type 0} (xs ys : List X) (k : ℕ) (x : X) → drop k xs ≡ x ∷ ys → drop (k + 1) xs ≡ ys
-drop_next xs ys k x e =
-    let n : k + 1 ≡ suc k = omega arith in
-    rw n (after xs ys k x e)
-  where
-    after : {X : Type 0} (xs ys : List X) (k : ℕ) (x : X) → drop k xs ≡ x ∷ ys → drop (suc k) xs ≡ ys
-    after [] ys zero x e = absurd (let z : ⊥ = grind (arith, e) in z)
-    after [] ys (suc k) x e = absurd (let z : ⊥ = grind (arith, e) in z)
-    after (z ∷ xs) ys zero x e = cc
-    after (z ∷ xs) ys (suc k) x e = after xs ys k x e
+-- one more item took a step
+pub stepped_more : {X V : Type 0} (f : X → V) (h : V → V) (done rest others items : List X) (new x : X) → rest ≡ x ∷ others → f new ≡ h (f x)
+    → map f done ++ map h (map f rest) ≡ map h (map f items) → map f (done ++ new ∷ []) ++ map h (map f others) ≡ map h (map f items)
+stepped_more f h done rest others items new x is one so_far =
+    rw (map-append f done (new ∷ []), append_assoc, one) (rw is at so_far)
 
-pub length-more : {X : Type 0} (xs ys : List X) (x : X) → xs ≡ x ∷ ys → length xs ≡ length ys + 1
-length-more xs ys x e = rw e (omega arith)
+none_stepped : {V : Type 0} (step : ℕ → V → V) (vs : List V) → vs ≡ map (value_of step zero) vs
+none_stepped step [] = refl
+none_stepped step (v ∷ vs) = ap (λ l. v ∷ l) (none_stepped step vs)
 
-range_map : {V : Type 0} (f : ℕ → V) (a n : ℕ) → map f (range_with_len (a + 1) n) ≡ map (λ k. f (k + 1)) (range_with_len a n)
-range_map f a zero = refl
-range_map f a (suc n) = ap (λ vs. f (a + 1) ∷ vs) (range_map f (a + 1) n)
+all_stepped : {V : Type 0} (step : ℕ → V → V) (n : ℕ) (vs : List V) → map (step n) (map (value_of step n) vs) ≡ map (value_of step (suc n)) vs
+all_stepped step n [] = refl
+all_stepped step n (v ∷ vs) = ap (λ l. step n (value_of step n v) ∷ l) (all_stepped step n vs)
 
--- the tickets by number
-pub by_pending : {X V : Type 0} (f : BackState X → V) (ts : List (PendingReply X)) → map (λ k. f (due_at ts k)) (range_with_len 0 (length ts)) ≡ map (λ t. f (Waits t)) ts
-by_pending f [] = refl
-by_pending f (t ∷ ts) =
-    let step : map (λ k. f (due_at (t ∷ ts) (k + 1))) (range_with_len 0 (length ts)) ≡ map (λ k. f (due_at ts k)) (range_with_len 0 (length ts)) = simp add-one in
-    ap (λ vs. f (Waits t) ∷ vs) (range_map (λ k. f (due_at (t ∷ ts) k)) 0 (length ts) ∙ (step ∙ by_pending f ts))
+-- steps that are done to all of a lot are done to each alone
+pub part_stepped : {W V : Type 0} (part : W → List V) (all : ℕ → W → W) (step : ℕ → V → V)
+    → ((k : ℕ) (w : W) → part (all k w) ≡ map (step k) (part w)) → (n : ℕ) (w : W) → part (value_of all n w) ≡ map (value_of step n) (part w)
+part_stepped part all step each zero w = none_stepped step (part w)
+part_stepped part all step each (suc n) w =
+    each n (value_of all n w) ∙ (ap (map (step n)) (part_stepped part all step each n w) ∙ all_stepped step n (part w))
 
 -- what is made of each item of some lists, in lists or in all
 pub flat_map-mapped : {X V L : Type 0} (f : X → V) (items : L → List X) (lots : List L)
@@ -145,6 +119,14 @@ pub flat_map-mapped : {X V L : Type 0} (f : X → V) (items : L → List X) (lot
 flat_map-mapped f items [] = refl
 flat_map-mapped f items (v ∷ lots) =
     ap (λ vs. map f (items v) ++ vs) (flat_map-mapped f items lots) ∙ sym (map-append f (items v) (flat_map items lots))
+
+each_stepped : {L W V : Type 0} (part : W → List V) (value : L → W) (all : ℕ → W → W) (step : ℕ → V → V) (n : ℕ)
+    → ((k : ℕ) (w : W) → part (all k w) ≡ map (step k) (part w)) → (lots : List L)
+    → flat_map (λ l. part (value_of all n (value l))) lots ≡ flat_map (λ l. map (value_of step n) (part (value l))) lots
+each_stepped part value all step n each [] = refl
+each_stepped part value all step n each (l ∷ lots) =
+    ap (λ vs. vs ++ flat_map (λ l. part (value_of all n (value l))) lots) (part_stepped part all step each n (value l))
+    ∙ ap (λ vs. map (value_of step n) (part (value l)) ++ vs) (each_stepped part value all step n each lots)
 
 -- what each item of some lists gives, in lists or in all
 pub flat_map-flat : {X V L : Type 0} (f : X → List V) (items : L → List X) (lots : List L)
@@ -156,6 +138,37 @@ flat_map-flat f items (v ∷ lots) =
 pub flat_map-states : {A B C : Type 0} (f : B → List C) (g : A → B) (xs : List A) → flat_map (λ x. f (g x)) xs ≡ flat_map f (map g xs)
 flat_map-states f g [] = refl
 flat_map-states f g (x ∷ xs) = ap (λ l. f (g x) ++ l) (flat_map-states f g xs)
+
+flat_parts : {L W V X : Type 0} (part : W → List V) (value : L → W) (items : L → List X) (one : X → V) → ((l : L) → part (value l) ≡ map one (items l)) → (lots : List L)
+    → map one (flat_map items lots) ≡ flat_map (λ l. part (value l)) lots
+flat_parts part value items one holds [] = refl
+flat_parts part value items one holds (l ∷ lots) =
+    map-append one (items l) (flat_map items lots)
+    ∙ (ap (λ vs. vs ++ map one (flat_map items lots)) (sym (holds l)) ∙ ap (λ vs. part (value l) ++ vs) (flat_parts part value items one holds lots))
+
+-- what lots hold that went through some steps
+pub lots_stepped : {L W V X : Type 0} (part : W → List V) (value : L → W) (items : L → List X) (one : X → V) (all : ℕ → W → W) (step : ℕ → V → V) (n : ℕ)
+    → ((l : L) → part (value l) ≡ map one (items l)) → ((k : ℕ) (w : W) → part (all k w) ≡ map (step k) (part w)) → (arrived lots : List L)
+    → map value arrived ≡ map (λ l. value_of all n (value l)) lots
+    → map one (flat_map items arrived) ≡ map (value_of step n) (map one (flat_map items lots))
+lots_stepped part value items one all step n holds each arrived lots values =
+    flat_parts part value items one holds arrived
+    ∙ (flat_map-states part value arrived
+    ∙ (ap (flat_map part) values
+    ∙ (sym (flat_map-states part (λ l. value_of all n (value l)) lots)
+    ∙ (each_stepped part value all step n each lots
+    ∙ (flat_map-mapped (value_of step n) (λ l. part (value l)) lots
+    ∙ ap (map (value_of step n)) (sym (flat_parts part value items one holds lots)))))))
+
+-- lots that went through the same steps by another name
+pub same_steps : {L V : Type 0} (content seen : L → V) (step same : ℕ → V → V) (n : ℕ) (arrived lots : List L) → step ≡ same → content ≡ seen
+    → map content arrived ≡ map (λ x. value_of step n (content x)) lots → map seen arrived ≡ map (λ x. value_of same n (seen x)) lots
+same_steps {L} {V} content seen step same n arrived lots steps contents values =
+    subst (λ (s : ℕ → V → V). map seen arrived ≡ map (λ x. value_of s n (seen x)) lots) steps
+    (subst (λ (k : L → V). map k arrived ≡ map (λ x. value_of step n (k x)) lots) contents values)
+
+pub same_sizes : {L : Type 0} (count len : L → ℕ) (size : ℕ) (lots : List L) → count ≡ len → AreSized len size lots → AreSized count size lots
+same_sizes {L} count len size lots counts sized = subst (λ (k : L → ℕ). AreSized k size lots) (sym counts) sized
 
 -- ---- the same at another type of pages
 
@@ -192,20 +205,13 @@ reply_elsewhere Y (Rendered r) = refl
 
 -- all that is rendered are replies
 pub all_rendered : {X : Type 0} (Y : Type 0) (files : List File) (ts : List (PendingReply X))
-    → flat_map reply_in (map (λ (t : PendingReply Y). value_of (back_step files) 2 (Waits t)) (map pending_elsewhere ts)) ≡ map (λ t. reply_to files (slip_of_pending t)) ts
+    → flat_map reply_in (map (value_of (back_step files) 2) (map {B = BackState Y} (λ t. Waits (pending_elsewhere t)) ts)) ≡ map (λ t. reply_to files (slip_of_pending t)) ts
 all_rendered Y files [] = refl
 all_rendered Y files (t ∷ ts) =
     let one : reply_to files (slip_of_pending {X = Y} (pending_elsewhere t)) ≡ reply_to files (slip_of_pending t) = ap (reply_to files) (slip_same t) ∙ reply_same Y files (slip_of_pending t) in
-    ap (λ r. r ∷ flat_map reply_in (map (λ (x : PendingReply Y). value_of (back_step files) 2 (Waits x)) (map pending_elsewhere ts))) one ∙ ap (λ rs. reply_to files (slip_of_pending t) ∷ rs) (all_rendered Y files ts)
+    ap (λ r. r ∷ flat_map reply_in (map (value_of (back_step files) 2) (map {B = BackState Y} (λ t. Waits (pending_elsewhere t)) ts))) one ∙ ap (λ rs. reply_to files (slip_of_pending t) ∷ rs) (all_rendered Y files ts)
 
 -- ---- reading a list to its end
-
--- the ticket that comes next
-pub due_here : {X Y : Type 0} (ts rest : List (PendingReply X)) (k : ℕ) (t : PendingReply X) → drop k ts ≡ t ∷ rest → due_at {X = Y} (map pending_elsewhere ts) k ≡ Waits (pending_elsewhere t)
-due_here [] rest zero t e = absurd (let z : ⊥ = grind (arith, e) in z)
-due_here [] rest (suc k) t e = absurd (let z : ⊥ = grind (arith, e) in z)
-due_here {X} {Y} (x ∷ ts) rest zero t e = let same : x ≡ t = cc in ap (λ (y : PendingReply X). Waits (pending_elsewhere {Y = Y} y)) same
-due_here (x ∷ ts) rest (suc k) t e = due_here ts rest k t e
 
 and_right : (a b : Bool) → (a && b) ≡ true → b ≡ true
 and_right true b e = e

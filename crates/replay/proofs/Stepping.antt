@@ -14,8 +14,10 @@ use Rattle.arrivals.specs.Connections.{AreTiers}
 use Rattle.arrivals.specs.SeatStates.{SeatState}
 use Rattle.reference.specs.Reference.{Terms}
 use Rattle.reference.specs.Outcomes.{IfTooMany, IfCutShort, IsCutOff, IsOwn, Leaves}
-use Rattle.reference.specs.Texts.{reply_texts}
+use Rattle.reference.specs.Texts.{Texts, reply_texts}
 use Rattle.replay.specs.Between.{HasAnswered, Between, AtEnd, Stepped}
+use Rattle.replay.specs.Replayed.{Stopped}
+use Rattle.std.specs.Prelude.{Result, IfErr}
 use Rattle.replay.specs.Serving.{ServesMore, ServesFull, ServesInPart}
 use Rattle.replay.specs.Waiting.{Waiting, connections_of}
 use Rattle.replay.specs.declared.desk.Desk.{Desk}
@@ -104,3 +106,8 @@ goes_on more terms most version text begun p ahead tiers places desk written is 
 pub is_over : (more : Bool) (terms : Terms) (most : ℕ) (version : Version) (text begun : Option (List ℕ)) (p : Progress) (ahead : Option (List ℕ)) (tiers : List ℕ) (places : List SeatState) (desk : Desk) (written : Option (List ℕ))
     → more ≡ false → Stepped more terms most version text begun p ahead tiers places desk written → AtEnd terms most version text begun places desk written
 is_over more terms most version text begun p ahead tiers places desk written is h = rw is at h
+
+-- what stands where a replay stopped, out of its record
+pub left_so : {T : Type 0} (r : Result T PassFault) (t : Texts) (input ahead old new : Option (List ℕ)) → IfErr r (Stopped t input ahead old new) → IfErr r (Leaves t input ahead old new)
+left_so (Ok x) t input ahead old new h = tt
+left_so (Err f) t input ahead old new h = h.leaves

@@ -1,10 +1,13 @@
 -- The steps that a message takes before it is decided on.
-use Rattle.std.specs.Prelude.{ℕ, List, [], ◌∷◌, slice_index_or, nat_lt, if◌then◌else◌}
+use Rattle.std.specs.Prelude.{ℕ, List, nat_lt, if◌then◌else◌}
+use Rattle.std.specs.Coded.{Unit-prop, le_prop, coded_bool}
+use denote.Struct.Props.{≡_prop}
 use Rattle.stage_graph.specs.Steps.{value_of}
 use Rattle.paths.specs.Reference.{asked, outcome}
 use Rattle.paths.specs.Resolution.{IsOutcome}
 use Rattle.paths.specs.declared.file.File.{File}
-use Rattle.http_requests.specs.declared.messages.MessageFault.TheVariants.{Block}
+use Rattle.paths.specs.declared.resolution.Outcome.{Outcome}
+use Rattle.paths.specs.declared.resolution.Outcome.TheVariants as outcomes
 use Rattle.http_requests.specs.declared.messages.Meaning.{Meaning}
 use Rattle.http_requests.specs.declared.messages.Meaning.TheVariants.{Request, Bad}
 use Rattle.cost_model.specs.Reference.{Tariff, charge}
@@ -30,21 +33,25 @@ front_step files tariff k v = record { message = v.message; lookup = lookup_afte
 abbrev pub unseen : Incoming → LookedUp
 unseen message = record { message = message; lookup = Unseen }
 
--- what stands for a message after the last
-abbrev pub no_message : Incoming
-no_message = record { origin = record { conn = 0; tick = 0; tier = 0 }; what = Bad Block }
-
-abbrev pub message_at : List Incoming → ℕ → Incoming
-message_at messages n = slice_index_or messages n no_message
-
-abbrev pub unseen_at : List Incoming → ℕ → LookedUp
-unseen_at messages n = unseen (slice_index_or messages n no_message)
-
 -- an outcome that was found is one of these files'
 abbrev pub IsLookup : List File → Lookup → Type 0
 IsLookup files (Found o) = IsOutcome files o
 IsLookup files (Priced o cost) = IsOutcome files o
 IsLookup files lookup = Unit {0}
+
+outcome_prop : (files : List File) (o : Outcome) → IsProp (IsOutcome files o)
+outcome_prop files (outcomes.File file) = le_prop
+outcome_prop files (outcomes.Move to) = ≡_prop coded_bool _ _
+outcome_prop files outcomes.Missing = Unit-prop
+outcome_prop files outcomes.BadTarget = Unit-prop
+outcome_prop files outcomes.NotAllowed = Unit-prop
+outcome_prop files outcomes.NotKnown = Unit-prop
+
+pub lookup_prop : (files : List File) (lookup : Lookup) → IsProp (IsLookup files lookup)
+lookup_prop files Unseen = Unit-prop
+lookup_prop files (Asked a) = Unit-prop
+lookup_prop files (Found o) = outcome_prop files o
+lookup_prop files (Priced o cost) = outcome_prop files o
 
 -- what is known of a message before it is decided on: what it asks for, what that is, and what it costs
 abbrev pub front_value : List File → Tariff → Incoming → LookedUp
@@ -78,10 +85,3 @@ floor_lookup files tariff k (Request method target version closing since) (Price
 abbrev pub floor_step : List File → Tariff → ℕ → LookedUp → LookedUp
 floor_step files tariff k v =
     record { message = v.message; lookup = floor_lookup files tariff k v.message.what v.lookup }
-
--- each message with what is known of it
-abbrev pub each_looked_up : List Incoming → List Lookup → List LookedUp
-each_looked_up [] lookups = []
-each_looked_up (message ∷ messages) [] = []
-each_looked_up (message ∷ messages) (lookup ∷ lookups) =
-    record { message = message; lookup = lookup } ∷ each_looked_up messages lookups

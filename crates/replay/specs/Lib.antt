@@ -2,6 +2,8 @@ pub mod Backs
 pub mod Between
 pub mod Fronts
 pub mod Groups
+pub mod Lots
+pub mod Replayed
 pub mod Rowing
 pub mod Serving
 pub mod Steps

@@ -12,14 +12,16 @@ ghost use Rattle.reference.specs.Reference.{terms_of};
 ghost use Rattle.reference.specs.Outcomes.{IfTooMany, IfCutShort, IsOwn, Leaves};
 ghost use Rattle.reference.specs.Texts.{reply_texts};
 ghost use Rattle.replay.specs.Between.{Between, Stepped};
+ghost use Rattle.replay.specs.Lots.{AreFloorSteps};
 ghost use Rattle.replay.specs.Steps.{AnswersBatch, FillsWithBatch, AnswersBatchInPart};
 ghost use Rattle.replay.specs.Waiting.{ComeNext, Waiting};
 
 use crate::desk::Desk;
+use crate::lots::{Lot, LotValue};
 use crate::parts::{Floors, serve_parts};
 use crate::plain::answer_record;
 use crate::replies::Replies;
-use crate::server::Server;
+use crate::serving::Pricing;
 use crate::{MAX_MESSAGES, ReplayFault};
 use arrivals::{Ending, Origin, Seats, Tiers, parts_of, read_batch};
 use captures::{CaptureReader, Record};
@@ -28,7 +30,7 @@ use http_requests::Message;
 use page_cache::PageCache;
 use paths::Tree;
 use responses::HeadRenderer;
-use stage_graph::Gate;
+use stage_graph::{Carries, Gate};
 use std::io::{Read, Write};
 use std::mem::replace;
 use std::sync::Wait;
@@ -36,71 +38,84 @@ use std::thread::Threads;
 
 /// Serves a batch whose pieces wait at the seats: the connections are cut in parallel, and their messages answered in
 /// the order of their arrival.
-fn serve_batch<F: Tree + Send + Sync, G: Gate + Sync, T: Threads + Wait + Sync, W: Write>(
-    server: &Server<'_, F>,
-    floors: &Floors<'_, F, G, T>,
+fn serve_batch<
+    F: Tree,
+    K: Pricing,
+    Q,
+    C: Carries<Lot = Lot<F>, Value = LotValue, Register = Q>,
+    G: Gate,
+    T: Threads + Wait + Sync,
+    W: Write,
+>(
+    floors: &Floors<'_, '_, F, K, C, Q, G, T>,
     seats: Seats,
     origins: &[Origin],
     desk: &mut Desk,
     writer: &mut Output<W>,
 ) -> Result<Seats, ReplayFault>
+    requires can { AreFloorSteps F.files K.tariff C.step C.content C.count }
     requires start { desk.old.start ≤ max_start }
     requires next { (records : List ARecord) × (rs : List ARecord) × (arrivals : List Arrival)
-        × ComeNext (terms_of F.files server.now) records rs arrivals seats origins.now desk.old }
+        × ComeNext (terms_of F.files floors.now.serving.now.server) records rs arrivals seats origins.now desk.old }
     requires limit { (desk.old.totals.answered ≤ floors.now.most)
         × (floors.now.most ≤ MAX_MESSAGES) }
     requires failures { CanFail writer.old }
     ensures serves { IfOk result
-        (λ after. AnswersBatch (terms_of F.files server.now) seats origins.now desk.old
+        (λ after. AnswersBatch (terms_of F.files floors.now.serving.now.server) seats origins.now desk.old
         after desk.new writer.old.bytes writer.new.bytes) }
     ensures idle { IfOk result (Waiting []) }
     ensures start { OnOk result (desk.new.start ≡ desk.old.start) }
     ensures within { OnOk result (desk.new.totals.answered ≤ floors.now.most) }
     ensures many { IfErr result (λ f. IfTooMany f (λ n. (n ≡ floors.now.most)
-        × FillsWithBatch floors.now.most (terms_of F.files server.now) seats origins.now desk.old
+        × FillsWithBatch floors.now.most (terms_of F.files floors.now.serving.now.server) seats origins.now desk.old
         writer.old.bytes writer.new.bytes)) }
     ensures part { IfErr result (λ f. IfCutShort f ((writer.new.bytes ≡ writer.old.bytes)
-        ⊎ AnswersBatchInPart floors.now.most (terms_of F.files server.now) seats origins.now desk.old
+        ⊎ AnswersBatchInPart floors.now.most (terms_of F.files floors.now.serving.now.server) seats origins.now desk.old
         writer.old.bytes writer.new.bytes)) }
     ensures failures { CountsBy writer_failures writer.old.failures writer.new.failures result }
     ensures own { IfErr result IsOwn }
 {
-    let mut seats = seats.cut(floors.rt, server.alloc)?;
-    let pieces = seats.merge(server.alloc, origins)?;
-    let parts = parts_of(server.alloc, pieces)?;
-    serve_parts(server, floors, parts, desk, writer)?;
+    let serving = floors.serving;
+    let alloc = serving.server.alloc;
+    let mut seats = seats.cut(serving.rt, alloc)?;
+    let pieces = seats.merge(alloc, origins)?;
+    let parts = parts_of(alloc, pieces)?;
+    serve_parts(floors, parts, desk, writer)?;
     Ok(seats)
 }
 
 /// Reads the next batch, and answers the messages that arrive with it. Answers whether there may be more.
 fn serve_next_batch<
-    F: Tree + Send + Sync,
-    G: Gate + Sync,
+    F: Tree,
+    K: Pricing,
+    Q,
+    C: Carries<Lot = Lot<F>, Value = LotValue, Register = Q>,
+    G: Gate,
     T: Threads + Wait + Sync,
     R: Read,
     W: Write,
 >(
-    server: &Server<'_, F>,
-    floors: &Floors<'_, F, G, T>,
+    floors: &Floors<'_, '_, F, K, C, Q, G, T>,
     capture: &mut CaptureReader<'_, R>,
     seats: &mut Seats,
     tiers: &mut Tiers,
     desk: &mut Desk,
     writer: &mut Output<W>,
 ) -> Result<bool, ReplayFault>
+    requires can { AreFloorSteps F.files K.tariff C.step C.content C.count }
     requires between { (version : AVersion) × (text : Option (List ℕ)) × (begun : Option (List ℕ))
-        × Between (terms_of F.files server.now) floors.now.most version text begun (progress_of capture.old)
-        (device_of capture.old).bytes tiers.old seats.old desk.old writer.old.bytes }
+        × Between (terms_of F.files floors.now.serving.now.server) floors.now.most version text begun
+        (progress_of capture.old) (device_of capture.old).bytes tiers.old seats.old desk.old writer.old.bytes }
     requires devices { CanFail (device_of capture.old) × CanFail writer.old }
     ensures on { IfOk result (λ more. (version : AVersion) (text begun : Option (List ℕ))
-        → Between (terms_of F.files server.now) floors.now.most version text begun (progress_of capture.old)
-        (device_of capture.old).bytes tiers.old seats.old desk.old writer.old.bytes
-        → Stepped more (terms_of F.files server.now) floors.now.most version text begun (progress_of capture.new)
-        (device_of capture.new).bytes tiers.new seats.new desk.new writer.new.bytes) }
+        → Between (terms_of F.files floors.now.serving.now.server) floors.now.most version text begun
+        (progress_of capture.old) (device_of capture.old).bytes tiers.old seats.old desk.old writer.old.bytes
+        → Stepped more (terms_of F.files floors.now.serving.now.server) floors.now.most version text begun
+        (progress_of capture.new) (device_of capture.new).bytes tiers.new seats.new desk.new writer.new.bytes) }
     ensures fault { IfErr result (λ f. (version : AVersion) (text begun : Option (List ℕ))
-        → Between (terms_of F.files server.now) floors.now.most version text begun (progress_of capture.old)
-        (device_of capture.old).bytes tiers.old seats.old desk.old writer.old.bytes
-        → Leaves (reply_texts (terms_of F.files server.now)) text (device_of capture.new).bytes
+        → Between (terms_of F.files floors.now.serving.now.server) floors.now.most version text begun
+        (progress_of capture.old) (device_of capture.old).bytes tiers.old seats.old desk.old writer.old.bytes
+        → Leaves (reply_texts (terms_of F.files floors.now.serving.now.server)) text (device_of capture.new).bytes
         begun writer.new.bytes f) }
     ensures room { IfOk result (λ more. more ≡ true
         → (progress_of capture.new).room < (progress_of capture.old).room) }
@@ -109,11 +124,13 @@ fn serve_next_batch<
     ensures writes { CountsBy writer_failures writer.old.failures writer.new.failures result }
     ensures same { loan_of capture.new ≡ loan_of capture.old }
 {
-    let alloc = server.alloc;
-    let most = server.settings.batch();
+    let serving = floors.serving;
+    let alloc = serving.server.alloc;
+    let settings = serving.server.settings;
+    let most = settings.batch();
     let batch = read_batch(alloc, capture, most, seats, tiers)?;
     let waiting = replace(seats, Seats::new(alloc));
-    *seats = serve_batch(server, floors, waiting, &batch.origins, desk, writer)?;
+    *seats = serve_batch(floors, waiting, &batch.origins, desk, writer)?;
     floors.load.judge(most, batch.origins.len());
     match batch.ending {
         Ending::More => Ok(true),
@@ -125,14 +142,16 @@ fn serve_next_batch<
 /// Takes a step: reads the next batch, where floors pay, or the next record, whose messages are answered one after
 /// another; `heads` and `messages` are kept from record to record. Answers whether there may be more.
 pub(crate) fn serve_next<
-    F: Tree + Send + Sync,
-    G: Gate + Sync,
+    F: Tree,
+    K: Pricing,
+    Q,
+    C: Carries<Lot = Lot<F>, Value = LotValue, Register = Q>,
+    G: Gate,
     T: Threads + Wait + Sync,
     R: Read,
     W: Write,
 >(
-    server: &Server<'_, F>,
-    floors: &Floors<'_, F, G, T>,
+    floors: &Floors<'_, '_, F, K, C, Q, G, T>,
     heads: &mut HeadRenderer,
     messages: &mut Vec<Message>,
     capture: &mut CaptureReader<'_, R>,
@@ -141,19 +160,20 @@ pub(crate) fn serve_next<
     desk: &mut Desk,
     writer: &mut Output<W>,
 ) -> Result<bool, ReplayFault>
+    requires can { AreFloorSteps F.files K.tariff C.step C.content C.count }
     requires between { (version : AVersion) × (text : Option (List ℕ)) × (begun : Option (List ℕ))
-        × Between (terms_of F.files server.now) floors.now.most version text begun (progress_of capture.old)
-        (device_of capture.old).bytes tiers.old seats.old desk.old writer.old.bytes }
+        × Between (terms_of F.files floors.now.serving.now.server) floors.now.most version text begun
+        (progress_of capture.old) (device_of capture.old).bytes tiers.old seats.old desk.old writer.old.bytes }
     requires devices { CanFail (device_of capture.old) × CanFail writer.old }
     ensures on { IfOk result (λ more. (version : AVersion) (text begun : Option (List ℕ))
-        → Between (terms_of F.files server.now) floors.now.most version text begun (progress_of capture.old)
-        (device_of capture.old).bytes tiers.old seats.old desk.old writer.old.bytes
-        → Stepped more (terms_of F.files server.now) floors.now.most version text begun (progress_of capture.new)
-        (device_of capture.new).bytes tiers.new seats.new desk.new writer.new.bytes) }
+        → Between (terms_of F.files floors.now.serving.now.server) floors.now.most version text begun
+        (progress_of capture.old) (device_of capture.old).bytes tiers.old seats.old desk.old writer.old.bytes
+        → Stepped more (terms_of F.files floors.now.serving.now.server) floors.now.most version text begun
+        (progress_of capture.new) (device_of capture.new).bytes tiers.new seats.new desk.new writer.new.bytes) }
     ensures fault { IfErr result (λ f. (version : AVersion) (text begun : Option (List ℕ))
-        → Between (terms_of F.files server.now) floors.now.most version text begun (progress_of capture.old)
-        (device_of capture.old).bytes tiers.old seats.old desk.old writer.old.bytes
-        → Leaves (reply_texts (terms_of F.files server.now)) text (device_of capture.new).bytes
+        → Between (terms_of F.files floors.now.serving.now.server) floors.now.most version text begun
+        (progress_of capture.old) (device_of capture.old).bytes tiers.old seats.old desk.old writer.old.bytes
+        → Leaves (reply_texts (terms_of F.files floors.now.serving.now.server)) text (device_of capture.new).bytes
         begun writer.new.bytes f) }
     ensures room { IfOk result (λ more. more ≡ true
         → (progress_of capture.new).room < (progress_of capture.old).room) }
@@ -163,14 +183,17 @@ pub(crate) fn serve_next<
     ensures same { loan_of capture.new ≡ loan_of capture.old }
 {
     if floors.pay() {
-        return serve_next_batch(server, floors, capture, seats, tiers, desk, writer);
+        return serve_next_batch(floors, capture, seats, tiers, desk, writer);
     }
+    let serving = floors.serving;
+    let server = &serving.server;
+    let settings = server.settings;
     let next = match capture.next_record(server.alloc) {
         Ok(Some(next)) => next,
         Ok(None) => return Ok(false),
         Err(fault) => return Err(ReplayFault::from(fault)),
     };
-    let mut pages = floors.pages.cache.lock(floors.rt);
+    let mut pages = serving.cache.lock(serving.rt);
     answer_record::<Replies, F, PageCache<F>, Seats, W>(
         server,
         heads,
@@ -184,7 +207,7 @@ pub(crate) fn serve_next<
         floors.most,
     )?;
     if let Record::Piece { .. } = next {
-        floors.load.note_piece(server.settings.batch(), messages);
+        floors.load.note_piece(settings.batch(), messages);
     }
     Ok(true)
 }

@@ -19,15 +19,6 @@ const FIELDS: usize = 256;
 /// How many bytes are copied in the time that a reply takes besides its page.
 const REPLY: usize = 512;
 
-/// The pages that all workers share.
-#[derive(Drop)]
-pub struct Pages<F: Tree> {
-    pub cache: Mutex<PageCache<F>>,
-    /// How many bytes of pages the replies of a group may hold, each counted as often as it is due: any number without
-    /// it.
-    pub room: Option<usize>,
-}
-
 /// How many bytes of pages the replies of a group may hold. Where the cache has room for the pages of all files, each
 /// stands in memory once, however many replies share it.
 pub(crate) fn room_for_pages(snapshot: &Snapshot, cache: usize) -> Option<usize>

@@ -4,7 +4,7 @@ use http_requests::{Meaning, Message};
 use std::cell::Cell;
 
 /// How many bytes of targets a part has where a floor pays: to look them up takes longer than to take messages through
-/// queues, and to start threads.
+/// lots and queues.
 pub(crate) const LOOKING_PAYS: usize = 1_048_576;
 
 /// How many bytes of work a group is where a floor pays. A thread by itself builds a page where the last one was, and

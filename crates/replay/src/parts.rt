@@ -1,7 +1,13 @@
 //! A batch: both floors, the decisions between them, and the writing.
 
-ghost use Rattle.std.specs.Prelude.{◌≡◌, ◌<◌, ◌≤◌, ◌-◌, ◌+◌, ℕ, List, flat_map, length, IfOk, IfErr, OnOk, OnErr, true};
+ghost use Rattle.std.specs.Prelude.{◌≡◌, ◌<◌, ◌≤◌, ◌-◌, ◌+◌, ℕ, List, map, flat_map, length, IfOk, IfErr, OnOk};
+ghost use Rattle.std.specs.Prelude.{OnErr, true};
 ghost use Rattle.std.specs.List.{list_all};
+ghost use Rattle.stage_graph.specs.After.{last_cut};
+ghost use Rattle.stage_graph.specs.Crews.{AreSized};
+ghost use Rattle.stage_graph.specs.Layouts.{IsLotSize};
+ghost use Rattle.stage_graph.specs.Steps.{value_of};
+ghost use Rattle.replay.specs.Lots.{AreFloorSteps, lot_len, lot_step, lot_value};
 ghost use Rattle.replay.specs.Backs.{is_back};
 ghost use Rattle.replay.specs.declared.back.BackState.TheVariants.{Due as Waits};
 ghost use Rattle.replay.specs.Groups.{records_of};
@@ -22,45 +28,54 @@ use crate::back::run_back;
 use crate::desk::{Desk, decide_all};
 use crate::direct::{answer_each, settle_all};
 use crate::front::run_front;
-use crate::groups::{Pages, groups_of, work_of};
+use crate::groups::{groups_of, work_of};
 use crate::load::{ANSWERING_PAYS, LOOKING_PAYS, Load, target_len};
+use crate::lots::{Lot, LotValue};
 use crate::pending::PendingReply;
 use crate::server::Server;
-use crate::shifted::Shifted;
+use crate::serving::{Pricing, Serving};
 use crate::{MAX_MESSAGES, ReplayFault};
 use arrivals::{Incoming, Series};
 use devices::Output;
 use paths::Tree;
 use responses::{Reply, write_reply};
-use stage_graph::{Gate, Unrun};
+use stage_graph::{Before, Carries, Gate, Plan, Unrun};
 use std::io::Write;
-use std::sync::Wait;
-use std::thread::Threads;
+use std::sync::{Mutex, Wait};
 
-/// How many bytes of targets are worth a thread of the front floor: to look them up takes longer than to start one.
-const WORTH_LOOKING: usize = 262_144;
+/// The most messages of a lot: so many take long enough that it pays to hand them on.
+const MOST_IN_LOT: usize = 256;
 
-/// How many bytes of a target are looked up in the time that a message takes besides its target.
-const MESSAGE: usize = 256;
+/// How many lots a floor has for each thread, where it has messages for so many: so none waits long for another.
+const LOTS_EACH: usize = 4;
 
-/// How many bytes of work are worth a thread of the back floor.
-const WORTH_ANSWERING: usize = 524_288;
-
-/// What the floors of the staged engine work with, besides what they serve.
+/// The floors of the staged engine, and what they work with.
 #[derive(Drop)]
-pub(crate) struct Floors<'a, F: Tree, G, T> {
-    pub rt: &'a T,
-    /// How many threads work at a time, where the gate never holds a message.
-    pub threads: usize,
-    pub pages: Pages<F>,
+pub(crate) struct Floors<'v, 'a, F: Tree, K: Pricing, C, Q, G, T: Wait> {
+    pub serving: &'a Serving<'a, F, K, T>,
+    pub crew: &'v C,
+    pub register: &'v Mutex<Q>,
     pub gate: &'a G,
+    /// How many threads work at a time.
+    pub threads: usize,
+    /// How many bytes of pages the replies of a group may hold: any number without it.
+    pub room: Option<usize>,
     /// How many messages are answered at most.
     pub most: usize,
     /// How much work they have, or would have.
     pub load: Load,
 }
 
-impl<'a, F: Tree, G: Gate, T> Floors<'a, F, G, T> {
+impl<
+    'v,
+    'a,
+    F: Tree,
+    K: Pricing,
+    Q,
+    C: Carries<Lot = Lot<F>, Value = LotValue, Register = Q>,
+    G: Gate,
+    T: Wait,
+> Floors<'v, 'a, F, K, C, Q, G, T> {
     /// Whether batches are read and taken through floors: where a gate sees the messages, and where a floor pays, if a
     /// second thread is there.
     pub fn pay(&self) -> bool {
@@ -73,6 +88,35 @@ impl<'a, F: Tree, G: Gate, T> Floors<'a, F, G, T> {
         self.load.note(work, pays);
         self.gate.is_absent() && (work < pays || self.threads <= 1)
     }
+
+    /// How many of so many messages are in a lot at most, on a floor of this plan.
+    pub fn lot_size(&self, plan: &Plan, count: usize) -> usize
+        ensures { IsLotSize plan.now result }
+    {
+        let lots = self.threads.saturating_mul(LOTS_EACH).max(1);
+        plan.least_capacity((count / lots).min(MOST_IN_LOT) + 1)
+    }
+
+    /// Takes lots through a floor of this plan.
+    pub fn run(
+        &self,
+        plan: &Plan,
+        size: usize,
+        before: Before,
+        lots: Vec<Lot<F>>,
+    ) -> Result<Vec<Lot<F>>, Unrun>
+        requires can { AreFloorSteps F.files K.tariff C.step C.content C.count }
+        requires size { IsLotSize plan.now size }
+        requires lots { AreSized lot_len size lots.items }
+        ensures { IfOk result (λ v. map (lot_value F.files) v.items
+            ≡ map (λ lot. value_of (lot_step F.files self.now.serving.now.server.tariff) (last_cut plan.now)
+            (lot_value F.files lot)) lots.items) }
+    {
+        let serving = self.serving;
+        let mut register = self.register.lock(serving.rt);
+        let arrived = self.crew.carry(&mut *register, plan, size, before, lots)?;
+        Ok(arrived)
+    }
 }
 
 /// How many bytes the targets of messages have.
@@ -84,7 +128,7 @@ fn targets_of(messages: &[Incoming]) -> usize {
     bytes
 }
 
-/// The fault of a replay whose floor has no run: it was out of memory, or a thread could not be started.
+/// The fault of a replay whose floor has no run: it was out of memory.
 fn of_unrun(_unrun: Unrun) -> ReplayFault
     ensures { result ≡ ReplayFault.Memory }
 {
@@ -112,12 +156,20 @@ fn write_replies<F: Tree, W: Write>(
 
 /// Answers a group of messages that were decided on: their pages are fetched and their replies rendered by a floor, and
 /// written in their order; or each is answered before the next.
-fn answer_group<F: Tree + Send + Sync, G: Gate + Sync, T: Threads + Wait + Sync, W: Write>(
-    server: &Server<'_, F>,
-    floors: &Floors<'_, F, G, T>,
+fn answer_group<
+    F: Tree,
+    K: Pricing,
+    Q,
+    C: Carries<Lot = Lot<F>, Value = LotValue, Register = Q>,
+    G: Gate,
+    T: Wait,
+    W: Write,
+>(
+    floors: &Floors<'_, '_, F, K, C, Q, G, T>,
     group: Vec<PendingReply<F>>,
     writer: &mut Output<W>,
 ) -> Result<(), ReplayFault>
+    requires can { AreFloorSteps F.files K.tariff C.step C.content C.count }
     requires ready { list_all (λ t. is_back F.files (Waits t)) group.items ≡ true }
     requires failures { CanFail writer.old }
     ensures written { OnOk result
@@ -131,31 +183,34 @@ fn answer_group<F: Tree + Send + Sync, G: Gate + Sync, T: Threads + Wait + Sync,
         Some(pending) => pending.number,
         None => return Ok(()),
     };
-    let cache = &floors.pages.cache;
-    let work = work_of(floors.rt, server.snapshot, cache, ANSWERING_PAYS, &group);
+    let serving = floors.serving;
+    let server = &serving.server;
+    let cache = &serving.cache;
+    let work = work_of(serving.rt, server.snapshot, cache, ANSWERING_PAYS, &group);
     if floors.is_alone(work, ANSWERING_PAYS) {
-        return answer_each(server, floors.rt, cache, group, writer);
+        return answer_each(server, serving.rt, cache, group, writer);
     }
-    let threads = floors.threads.min(work / WORTH_ANSWERING);
-    let settings = server.settings;
-    let following = Shifted {
-        gate: floors.gate,
-        stages: settings.front().stages(),
-        first,
-    };
-    match run_back::<F, Shifted<G>, T>(server, floors.rt, threads, cache, group, &following) {
+    match run_back(floors, first, group) {
         Ok(replies) => write_replies(&replies, writer),
         Err(unrun) => Err(of_unrun(unrun)),
     }
 }
 
 /// Answers messages that were decided on, a group of them at a time, so that memory holds the pages of one.
-fn answer_all_pending<F: Tree + Send + Sync, G: Gate + Sync, T: Threads + Wait + Sync, W: Write>(
-    server: &Server<'_, F>,
-    floors: &Floors<'_, F, G, T>,
+fn answer_all_pending<
+    F: Tree,
+    K: Pricing,
+    Q,
+    C: Carries<Lot = Lot<F>, Value = LotValue, Register = Q>,
+    G: Gate,
+    T: Wait,
+    W: Write,
+>(
+    floors: &Floors<'_, '_, F, K, C, Q, G, T>,
     pending_replies: Vec<PendingReply<F>>,
     writer: &mut Output<W>,
 ) -> Result<(), ReplayFault>
+    requires can { AreFloorSteps F.files K.tariff C.step C.content C.count }
     requires ready { list_all (λ t. is_back F.files (Waits t)) pending_replies.items ≡ true }
     requires failures { CanFail writer.old }
     ensures written { OnOk result
@@ -165,73 +220,82 @@ fn answer_all_pending<F: Tree + Send + Sync, G: Gate + Sync, T: Threads + Wait +
     ensures failures { CountsBy writer_failures writer.old.failures writer.new.failures result }
     ensures own { IfErr result IsWriteOrMemory }
 {
-    for group in groups_of(
-        server.alloc,
-        server.snapshot,
-        floors.pages.room,
-        pending_replies,
-    )? {
-        answer_group(server, floors, group.into_vec(), writer)?;
+    let serving = floors.serving;
+    let server = &serving.server;
+    for group in groups_of(server.alloc, server.snapshot, floors.room, pending_replies)? {
+        answer_group(floors, group.into_vec(), writer)?;
     }
     Ok(())
 }
 
 /// Looks messages up and decides on them: a floor looks them up, and then they are decided on in their order; or each
 /// is looked up and decided on before the next.
-fn settle_messages<F: Tree + Send + Sync, G: Gate + Sync, T: Threads + Wait + Sync>(
-    server: &Server<'_, F>,
-    floors: &Floors<'_, F, G, T>,
+fn settle_messages<
+    F: Tree,
+    K: Pricing,
+    Q,
+    C: Carries<Lot = Lot<F>, Value = LotValue, Register = Q>,
+    G: Gate,
+    T: Wait,
+>(
+    floors: &Floors<'_, '_, F, K, C, Q, G, T>,
     messages: Vec<Incoming>,
     desk: &mut Desk,
 ) -> Result<Vec<PendingReply<F>>, ReplayFault>
+    requires can { AreFloorSteps F.files K.tariff C.step C.content C.count }
     requires start { desk.old.start ≤ max_start }
     requires next { (arrivals : List Arrival) × (more : List Arrival)
-        × Upcoming (terms_of F.files server.now) arrivals more messages.items desk.old
+        × Upcoming (terms_of F.files floors.now.serving.now.server) arrivals more messages.items desk.old
         × (length arrivals + length more ≤ MAX_MESSAGES) }
     ensures stands { OnOk result
-        (DecidesComing (terms_of F.files server.now) messages.items desk.old desk.new) }
+        (DecidesComing (terms_of F.files floors.now.serving.now.server) messages.items desk.old desk.new) }
     ensures slips { IfOk result
-        (λ v. ArePending (terms_of F.files server.now) messages.items desk.old v.items) }
+        (λ v. ArePending (terms_of F.files floors.now.serving.now.server) messages.items desk.old v.items) }
     ensures ready { IfOk result (λ v. list_all (λ t. is_back F.files (Waits t)) v.items ≡ true) }
     ensures start { OnOk result (desk.new.start ≡ desk.old.start) }
     ensures memory { IfErr result (λ f. f ≡ ReplayFault.Memory) }
 {
+    let serving = floors.serving;
+    let server = &serving.server;
     let targets = targets_of(&messages);
     if floors.is_alone(targets, LOOKING_PAYS) {
         return Ok(settle_all(server, messages, desk)?);
     }
-    let work = targets.saturating_add(messages.len().saturating_mul(MESSAGE));
-    let threads = floors.threads.min(work / WORTH_LOOKING);
-    let before = Shifted {
-        gate: floors.gate,
-        stages: 0,
-        first: desk.totals.answered,
-    };
-    match run_front::<F, Shifted<G>, T>(server, floors.rt, threads, messages, &before) {
+    match run_front(floors, desk.totals.answered, messages) {
         Ok(lookups) => Ok(decide_all(server, lookups, desk)?),
         Err(unrun) => Err(of_unrun(unrun)),
     }
 }
 
 /// Serves messages within the limit: they are looked up, decided on, and answered.
-fn serve_few<F: Tree + Send + Sync, G: Gate + Sync, T: Threads + Wait + Sync, W: Write>(
-    server: &Server<'_, F>,
-    floors: &Floors<'_, F, G, T>,
+fn serve_few<
+    F: Tree,
+    K: Pricing,
+    Q,
+    C: Carries<Lot = Lot<F>, Value = LotValue, Register = Q>,
+    G: Gate,
+    T: Wait,
+    W: Write,
+>(
+    floors: &Floors<'_, '_, F, K, C, Q, G, T>,
     messages: Vec<Incoming>,
     desk: &mut Desk,
     writer: &mut Output<W>,
 ) -> Result<(), ReplayFault>
+    requires can { AreFloorSteps F.files K.tariff C.step C.content C.count }
     requires start { desk.old.start ≤ max_start }
     requires next { (arrivals : List Arrival) × (more : List Arrival)
-        × Upcoming (terms_of F.files server.now) arrivals more messages.items desk.old
+        × Upcoming (terms_of F.files floors.now.serving.now.server) arrivals more messages.items desk.old
         × (length arrivals + length more ≤ MAX_MESSAGES) }
     requires failures { CanFail writer.old }
     ensures stands { OnOk result
-        (DecidesComing (terms_of F.files server.now) messages.items desk.old desk.new) }
+        (DecidesComing (terms_of F.files floors.now.serving.now.server) messages.items desk.old desk.new) }
     ensures written { OnOk result
-        (WritesComing (terms_of F.files server.now) messages.items desk.old writer.old.bytes writer.new.bytes) }
+        (WritesComing (terms_of F.files floors.now.serving.now.server) messages.items desk.old
+        writer.old.bytes writer.new.bytes) }
     ensures part { OnErr result
-        (WritesComingInPart (terms_of F.files server.now) messages.items desk.old writer.old.bytes writer.new.bytes) }
+        (WritesComingInPart (terms_of F.files floors.now.serving.now.server) messages.items desk.old
+        writer.old.bytes writer.new.bytes) }
     ensures start { OnOk result (desk.new.start ≡ desk.old.start) }
     ensures failures { CountsBy writer_failures writer.old.failures writer.new.failures result }
     ensures own { IfErr result IsWriteOrMemory }
@@ -239,35 +303,45 @@ fn serve_few<F: Tree + Send + Sync, G: Gate + Sync, T: Threads + Wait + Sync, W:
     if messages.is_empty() {
         return Ok(());
     }
-    let pending_replies = settle_messages(server, floors, messages, desk)?;
-    answer_all_pending(server, floors, pending_replies, writer)
+    let pending_replies = settle_messages(floors, messages, desk)?;
+    answer_all_pending(floors, pending_replies, writer)
 }
 
 /// Serves messages: those within the limit.
-fn serve_part<F: Tree + Send + Sync, G: Gate + Sync, T: Threads + Wait + Sync, W: Write>(
-    server: &Server<'_, F>,
-    floors: &Floors<'_, F, G, T>,
+fn serve_part<
+    F: Tree,
+    K: Pricing,
+    Q,
+    C: Carries<Lot = Lot<F>, Value = LotValue, Register = Q>,
+    G: Gate,
+    T: Wait,
+    W: Write,
+>(
+    floors: &Floors<'_, '_, F, K, C, Q, G, T>,
     messages: Vec<Incoming>,
     desk: &mut Desk,
     writer: &mut Output<W>,
 ) -> Result<(), ReplayFault>
+    requires can { AreFloorSteps F.files K.tariff C.step C.content C.count }
     requires start { desk.old.start ≤ max_start }
     requires next { (arrivals : List Arrival) × (more : List Arrival)
-        × Upcoming (terms_of F.files server.now) arrivals more messages.items desk.old }
+        × Upcoming (terms_of F.files floors.now.serving.now.server) arrivals more messages.items desk.old }
     requires limit { (desk.old.totals.answered ≤ floors.now.most)
         × (floors.now.most ≤ MAX_MESSAGES) }
     requires failures { CanFail writer.old }
     ensures stands { OnOk result
-        (DecidesComing (terms_of F.files server.now) messages.items desk.old desk.new) }
+        (DecidesComing (terms_of F.files floors.now.serving.now.server) messages.items desk.old desk.new) }
     ensures written { OnOk result
-        (WritesComing (terms_of F.files server.now) messages.items desk.old writer.old.bytes writer.new.bytes) }
+        (WritesComing (terms_of F.files floors.now.serving.now.server) messages.items desk.old
+        writer.old.bytes writer.new.bytes) }
     ensures many { IfErr result
         (λ f. IfTooMany f (λ n. (n ≡ floors.now.most) × (i : ℕ) × (i < length messages.items)
         × (desk.old.totals.answered + i ≡ floors.now.most)
-        × WritesFirst i (terms_of F.files server.now) messages.items desk.old writer.old.bytes writer.new.bytes)) }
+        × WritesFirst i (terms_of F.files floors.now.serving.now.server) messages.items desk.old
+        writer.old.bytes writer.new.bytes)) }
     ensures part { IfErr result (λ f. IfCutShort f ((i : ℕ) × (i ≤ length messages.items)
         × (desk.old.totals.answered + i ≤ floors.now.most)
-        × WritesFirstInPart i (terms_of F.files server.now) messages.items desk.old
+        × WritesFirstInPart i (terms_of F.files floors.now.serving.now.server) messages.items desk.old
         writer.old.bytes writer.new.bytes)) }
     ensures start { OnOk result (desk.new.start ≡ desk.old.start) }
     ensures within { OnOk result (desk.new.totals.answered ≤ floors.now.most) }
@@ -276,44 +350,48 @@ fn serve_part<F: Tree + Send + Sync, G: Gate + Sync, T: Threads + Wait + Sync, W
 {
     let room = floors.most - desk.totals.answered;
     if messages.len() <= room {
-        return serve_few(server, floors, messages, desk, writer);
+        return serve_few(floors, messages, desk, writer);
     }
     let mut within = messages;
     within.truncate(room);
-    serve_few(server, floors, within, desk, writer)?;
+    serve_few(floors, within, desk, writer)?;
     Err(ReplayFault::TooMany(floors.most))
 }
 
 /// Serves the messages of a batch, part after part.
 pub(crate) fn serve_parts<
-    F: Tree + Send + Sync,
-    G: Gate + Sync,
-    T: Threads + Wait + Sync,
+    F: Tree,
+    K: Pricing,
+    Q,
+    C: Carries<Lot = Lot<F>, Value = LotValue, Register = Q>,
+    G: Gate,
+    T: Wait,
     W: Write,
 >(
-    server: &Server<'_, F>,
-    floors: &Floors<'_, F, G, T>,
+    floors: &Floors<'_, '_, F, K, C, Q, G, T>,
     parts: Vec<Series<Incoming>>,
     desk: &mut Desk,
     writer: &mut Output<W>,
 ) -> Result<(), ReplayFault>
+    requires can { AreFloorSteps F.files K.tariff C.step C.content C.count }
     requires start { desk.old.start ≤ max_start }
     requires next { (arrivals : List Arrival) × (more : List Arrival)
-        × Upcoming (terms_of F.files server.now) arrivals more (joined parts.items) desk.old }
+        × Upcoming (terms_of F.files floors.now.serving.now.server) arrivals more (joined parts.items) desk.old }
     requires limit { (desk.old.totals.answered ≤ floors.now.most)
         × (floors.now.most ≤ MAX_MESSAGES) }
     requires failures { CanFail writer.old }
     ensures stands { OnOk result
-        (DecidesComing (terms_of F.files server.now) (joined parts.items) desk.old desk.new) }
+        (DecidesComing (terms_of F.files floors.now.serving.now.server) (joined parts.items) desk.old desk.new) }
     ensures written { OnOk result
-        (WritesComing (terms_of F.files server.now) (joined parts.items) desk.old writer.old.bytes writer.new.bytes) }
+        (WritesComing (terms_of F.files floors.now.serving.now.server) (joined parts.items) desk.old
+        writer.old.bytes writer.new.bytes) }
     ensures many { IfErr result (λ f. IfTooMany f (λ n. (n ≡ floors.now.most) × (i : ℕ)
         × (i < length (joined parts.items)) × (desk.old.totals.answered + i ≡ floors.now.most)
-        × WritesFirst i (terms_of F.files server.now) (joined parts.items) desk.old
+        × WritesFirst i (terms_of F.files floors.now.serving.now.server) (joined parts.items) desk.old
         writer.old.bytes writer.new.bytes)) }
     ensures part { IfErr result (λ f. IfCutShort f ((i : ℕ) × (i ≤ length (joined parts.items))
         × (desk.old.totals.answered + i ≤ floors.now.most)
-        × WritesFirstInPart i (terms_of F.files server.now) (joined parts.items) desk.old
+        × WritesFirstInPart i (terms_of F.files floors.now.serving.now.server) (joined parts.items) desk.old
         writer.old.bytes writer.new.bytes)) }
     ensures start { OnOk result (desk.new.start ≡ desk.old.start) }
     ensures within { OnOk result (desk.new.totals.answered ≤ floors.now.most) }
@@ -321,7 +399,7 @@ pub(crate) fn serve_parts<
     ensures own { IfErr result IsOwn }
 {
     for part in parts {
-        serve_part(server, floors, part.into_vec(), desk, writer)?;
+        serve_part(floors, part.into_vec(), desk, writer)?;
     }
     Ok(())
 }

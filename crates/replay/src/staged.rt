@@ -6,15 +6,19 @@ ghost use Rattle.reference.specs.Reference.{terms_of, Answers};
 ghost use Rattle.reference.specs.Outcomes.{Leaves};
 ghost use Rattle.captures.specs.Passes.{BlamesReader, leaves_reads_untold, reader_failures, writer_failures};
 ghost use Rattle.reference.specs.Texts.{reply_texts};
+ghost use Rattle.replay.specs.Lots.{AreFloorSteps};
+ghost use Rattle.replay.specs.Replayed.{Stopped, Replayed};
 
 use crate::advance::serve_next;
 use crate::desk::{Desk, controller_of};
-use crate::groups::{Pages, room_for_pages};
+use crate::groups::room_for_pages;
 use crate::load::Load;
+use crate::lots::{Lot, LotValue};
 use crate::parts::Floors;
 use crate::plain::outcome_of;
 use crate::replies::{write_first_line, write_last_line};
 use crate::server::Server;
+use crate::serving::{FloorSteps, Pricing, Serving};
 use crate::totals::Totals;
 use crate::{ReplayFault, Settings};
 use arrivals::{Seats, Tiers};
@@ -24,10 +28,10 @@ use page_cache::PageCache;
 use paths::{Snapshot, Tree};
 use reference::Outcome;
 use responses::HeadRenderer;
-use stage_graph::Gate;
+use stage_graph::{Carries, Crew, Gate, Naming, Opened, Register, Steps, Travel, beside};
 use std::alloc::Global;
 use std::io::{Read, Write};
-use std::marker::PhantomData;
+use std::marker::{Brand, PhantomData};
 use std::sync::{Mutex, Wait};
 use std::thread::{Threads, available_parallelism};
 
@@ -50,7 +54,7 @@ fn processors<T: Threads>(rt: &T) -> usize {
 ///
 /// # Errors
 ///
-/// As `plain_replay`; `Memory` also where a thread can't be started.
+/// As `plain_replay`.
 pub fn staged_replay<
     F: Tree + Send + Sync,
     G: Gate + Sync,
@@ -80,52 +84,277 @@ pub fn staged_replay<
     ensures ok { IfOk result
         (Answers (terms_of F.files settings.now) reader.old.bytes writer.old.bytes writer.new.bytes) }
 {
-    write_first_line(writer)?;
-    let mut capture = match CaptureReader::open(reader) {
-        Ok(capture) => capture,
-        Err(fault) => return Err(ReplayFault::from(fault)),
-    };
-    let mut seats = Seats::new(alloc);
-    let mut tiers = Tiers::new(alloc);
-    let version = capture.version();
-    let mut desk = Desk {
-        start: capture.start(),
-        controller: controller_of(alloc, settings)?,
-        totals: Totals::new(alloc),
-    };
-    let pages = Pages {
-        cache: Mutex::new(PageCache::<F>::new(alloc, settings.cache(), snapshot.len())?),
-        room: room_for_pages(snapshot, settings.cache()),
-    };
     let server = Server::<F> {
         alloc,
         snapshot,
         settings,
         tree: PhantomData,
     };
-    let floors = Floors {
+    replay_named::<F, Brand, Brand, G, T, R, W>(rt, server, gate, Opened::new(), reader, writer)
+}
+
+/// What replays a capture.
+trait Replays {
+    ghost use Rattle.reference.specs.Reference.{Terms};
+
+    /// What it replays by.
+    ghost terms: { Self → Terms };
+
+    /// What it asks of its threads and its crew.
+    ghost shares: { Self → Type 0 };
+
+    /// Replays a capture.
+    fn replay<R: Read, W: Write>(
+        &self,
+        reader: &mut Input<R>,
+        writer: &mut Output<W>,
+    ) -> Result<Outcome, ReplayFault>
+        requires shares { shares self.now }
+        requires devices { CanFail reader.old × CanFail writer.old }
+        // After a fault of the capture, the replies of the messages of the whole records before it stand; after too
+        // many messages, those of the messages within the limit; else a prefix of what was due.
+        ensures fault { IfErr result (Stopped (reply_texts (terms self.now))
+            reader.old.bytes reader.new.bytes writer.old.bytes writer.new.bytes) }
+        // A device is blamed exactly where it failed in this call; but one read that failed may go untold where the
+        // messages before it are too many, where they can't be written, and where memory runs out.
+        ensures reads { BlamesReader reader_failures leaves_reads_untold
+            reader.old.failures reader.new.failures result }
+        ensures writes { CountsBy writer_failures writer.old.failures writer.new.failures result }
+        ensures ok { IfOk result
+            (Answers (terms self.now) reader.old.bytes writer.old.bytes writer.new.bytes) };
+}
+
+/// What the staged engine replays by.
+#[derive(Drop)]
+struct Staged<'v, 'a, F: Tree, K: Pricing, C, Q, G, T: Wait> {
+    serving: &'a Serving<'a, F, K, T>,
+    crew: &'v C,
+    register: &'v Mutex<Q>,
+    gate: &'a G,
+    threads: usize,
+}
+
+/// The same under names for what requests cost and for the register of lots.
+fn replay_named<
+    'a,
+    F: Tree + Send + Sync,
+    K: Pricing + Send + Sync,
+    J: Naming + Send + Sync,
+    G: Gate + Sync,
+    T: Threads + Wait + Sync,
+    R: Read,
+    W: Write,
+>(
+    rt: &'a T,
+    server: Server<'a, F>,
+    gate: &'a G,
+    register: Opened<Lot<F>>,
+    reader: &mut Input<R>,
+    writer: &mut Output<W>,
+) -> Result<Outcome, ReplayFault>
+    requires tariff { server.tariff ≡ K.tariff }
+    requires book { register ≡ J.book }
+    requires devices { CanFail reader.old × CanFail writer.old }
+    ensures { Replayed (terms_of F.files server.entry)
+        reader.old.bytes reader.new.bytes writer.old.bytes writer.new.bytes
+        reader.old.failures reader.new.failures writer.old.failures writer.new.failures result }
+{
+    let alloc = server.alloc;
+    let settings = server.settings;
+    let cache = PageCache::<F>::new(alloc, settings.cache(), server.snapshot.len())?;
+    let serving = Serving::<F, K, T> {
         rt,
-        threads: processors(rt),
-        pages,
-        gate,
-        most: version.max_messages(),
-        load: Load::new(),
+        server,
+        cache: Mutex::new(cache),
+        of: PhantomData,
     };
-    let mut heads = HeadRenderer::new(alloc);
-    let mut messages = Vec::new(alloc);
-    while serve_next(
-        &server,
-        &floors,
-        &mut heads,
-        &mut messages,
-        &mut capture,
-        &mut seats,
-        &mut tiers,
-        &mut desk,
+    replay_with(
+        &serving,
+        FloorSteps { serving: &serving },
+        gate,
+        register.named::<J>(),
+        reader,
         writer,
-    )? {}
-    let answered = desk.totals.answered;
-    let outcome = outcome_of(version, desk);
-    write_last_line(alloc, writer, answered)?;
-    Ok(outcome)
+    )
+}
+
+/// Replays by a crew that takes these steps.
+fn replay_with<
+    'a,
+    F: Tree + Send + Sync,
+    K: Pricing + Send + Sync,
+    J: Naming + Send + Sync,
+    S: Steps<Lot = Lot<F>, Value = LotValue> + Sync + Drop,
+    G: Gate + Sync,
+    T: Threads + Wait + Sync,
+    R: Read,
+    W: Write,
+>(
+    serving: &'a Serving<'a, F, K, T>,
+    steps: S,
+    gate: &'a G,
+    register: Register<Lot<F>, J>,
+    reader: &mut Input<R>,
+    writer: &mut Output<W>,
+) -> Result<Outcome, ReplayFault>
+    requires can { AreFloorSteps F.files K.tariff S.step S.content S.count }
+    requires devices { CanFail reader.old × CanFail writer.old }
+    ensures { Replayed (terms_of F.files serving.now.server)
+        reader.old.bytes reader.new.bytes writer.old.bytes writer.new.bytes
+        reader.old.failures reader.new.failures writer.old.failures writer.new.failures result }
+{
+    let alloc = serving.server.alloc;
+    let travel = Travel::<S, J>::new(steps);
+    let crew = Crew::new(serving.rt, alloc, &travel, gate);
+    let register = Mutex::new(register);
+    replay_by(serving, &crew, &register, gate, reader, writer)
+}
+
+/// Replays by this crew, with as many threads as there are processors, and as the larger floor has workers.
+fn replay_by<
+    'v,
+    'a,
+    F: Tree + Send + Sync,
+    K: Pricing + Send + Sync,
+    J: Naming + Send + Sync,
+    S: Steps<Lot = Lot<F>, Value = LotValue> + Sync,
+    G: Gate + Sync,
+    T: Threads + Wait + Sync,
+    R: Read,
+    W: Write,
+>(
+    serving: &'a Serving<'a, F, K, T>,
+    crew: &'v Crew<'_, Travel<S, J>, G, T>,
+    register: &'v Mutex<Register<Lot<F>, J>>,
+    gate: &'a G,
+    reader: &mut Input<R>,
+    writer: &mut Output<W>,
+) -> Result<Outcome, ReplayFault>
+    requires can { AreFloorSteps F.files K.tariff S.step S.content S.count }
+    requires devices { CanFail reader.old × CanFail writer.old }
+    ensures { Replayed (terms_of F.files serving.now.server)
+        reader.old.bytes reader.new.bytes writer.old.bytes writer.new.bytes
+        reader.old.failures reader.new.failures writer.old.failures writer.new.failures result }
+{
+    let settings = serving.server.settings;
+    let workers = settings.front().workers().max(settings.back().workers());
+    let threads = processors(serving.rt).min(workers);
+    let staged = Staged {
+        serving,
+        crew,
+        register,
+        gate,
+        threads,
+    };
+    replay_beside(crew, threads.saturating_sub(1), &staged, reader, writer)
+}
+
+/// Replays beside so many helpers of a crew.
+fn replay_beside<
+    S: Steps + Sync,
+    J: Naming + Send + Sync,
+    G: Gate + Sync,
+    T: Threads + Wait + Sync,
+    P: Replays,
+    R: Read,
+    W: Write,
+>(
+    crew: &Crew<'_, Travel<S, J>, G, T>,
+    helpers: usize,
+    staged: &P,
+    reader: &mut Input<R>,
+    writer: &mut Output<W>,
+) -> Result<Outcome, ReplayFault>
+where
+    S::Lot: Send,
+    S::Value: Send,
+    requires shares { P.shares staged.now }
+    requires devices { CanFail reader.old × CanFail writer.old }
+    // After a fault of the capture, the replies of the messages of the whole records before it stand; after too many
+    // messages, those of the messages within the limit; else a prefix of what was due.
+    ensures fault { IfErr result (Stopped (reply_texts (P.terms staged.now))
+        reader.old.bytes reader.new.bytes writer.old.bytes writer.new.bytes) }
+    // A device is blamed exactly where it failed in this call; but one read that failed may go untold where the
+    // messages before it are too many, where they can't be written, and where memory runs out.
+    ensures reads { BlamesReader reader_failures leaves_reads_untold
+        reader.old.failures reader.new.failures result }
+    ensures writes { CountsBy writer_failures writer.old.failures writer.new.failures result }
+    ensures ok { IfOk result
+        (Answers (P.terms staged.now) reader.old.bytes writer.old.bytes writer.new.bytes) }
+{
+    beside(
+        crew,
+        helpers,
+        &mut ||
+            requires { P.shares staged.now × CanFail reader.now × CanFail writer.now }
+        { staged.replay(reader, writer) },
+    )
+}
+
+impl<
+    'v,
+    'a,
+    F: Tree,
+    K: Pricing,
+    Q,
+    C: Carries<Lot = Lot<F>, Value = LotValue, Register = Q>,
+    G: Gate,
+    T: Threads + Wait + Sync,
+> Replays for Staged<'v, 'a, F, K, C, Q, G, T> {
+    ghost use Rattle.reference.specs.Reference.{terms_of};
+    ghost use denote.Param.Send.{IsSync};
+
+    ghost terms = { λ s. terms_of F.files s.serving.now.server };
+
+    ghost shares = { λ s. IsSync T.row × AreFloorSteps F.files K.tariff C.step C.content C.count };
+
+    fn replay<R: Read, W: Write>(
+        &self,
+        reader: &mut Input<R>,
+        writer: &mut Output<W>,
+    ) -> Result<Outcome, ReplayFault> {
+        write_first_line(writer)?;
+        let mut capture = match CaptureReader::open(reader) {
+            Ok(capture) => capture,
+            Err(fault) => return Err(ReplayFault::from(fault)),
+        };
+        let serving = self.serving;
+        let server = &serving.server;
+        let alloc = server.alloc;
+        let settings = server.settings;
+        let mut seats = Seats::new(alloc);
+        let mut tiers = Tiers::new(alloc);
+        let version = capture.version();
+        let mut desk = Desk {
+            start: capture.start(),
+            controller: controller_of(alloc, settings)?,
+            totals: Totals::new(alloc),
+        };
+        let floors = Floors {
+            serving,
+            crew: self.crew,
+            register: self.register,
+            gate: self.gate,
+            threads: self.threads,
+            room: room_for_pages(server.snapshot, settings.cache()),
+            most: version.max_messages(),
+            load: Load::new(),
+        };
+        let mut heads = HeadRenderer::new(alloc);
+        let mut messages = Vec::new(alloc);
+        while serve_next(
+            &floors,
+            &mut heads,
+            &mut messages,
+            &mut capture,
+            &mut seats,
+            &mut tiers,
+            &mut desk,
+            writer,
+        )? {}
+        let answered = desk.totals.answered;
+        let outcome = outcome_of(version, desk);
+        write_last_line(alloc, writer, answered)?;
+        Ok(outcome)
+    }
 }

@@ -7,7 +7,6 @@ pub mod Weights
 pub mod Weighing
 pub mod Sound
 pub mod Leaving
-pub mod Left
 pub mod Closing
 pub mod Opening
 pub mod Fronts
@@ -18,5 +17,6 @@ pub mod Laws
 pub mod Counting
 pub mod ByNumber
 mod Lotting
-pub mod Rooms
-pub mod Ranges
+pub mod Beginnings
+pub mod Entries
+pub mod Crewing

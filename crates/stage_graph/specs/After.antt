@@ -1,9 +1,9 @@
 -- A floor after a history: which items stand where, with how many steps done.
 use Rattle.std.specs.Prelude.{◌≡◌, ℕ, ◌-◌, ◌<◌, Bool, true, false, List, [], length, map, slice_index_or, Option, Some}
-use Rattle.std.specs.Prelude.{None, if◌then◌else◌, ◌≤◌}
+use Rattle.std.specs.Prelude.{None, if◌then◌else◌}
 use Rattle.std.specs.Option.{option_map}
-use Rattle.stage_graph.specs.Layouts.{Layout, IsPlan, stages, workers, cut_at, cut_before, capacity_at, stage_at}
-use Rattle.stage_graph.specs.Floors.{queue_at, standing, is_legal_from_opening, State}
+use Rattle.stage_graph.specs.Layouts.{Layout, IsPlan, stages, workers, cut_at, cut_before, capacity_at}
+use Rattle.stage_graph.specs.Floors.{queue_at, standing, is_legal_from_opening}
 use Rattle.stage_graph.specs.declared.event.Event.{Event}
 
 -- An item's number and its steps done, beside a number and the steps that its place asks for.
@@ -57,20 +57,3 @@ pub record FloorAfter {X : Type 0} (mark : X → ℕ × ℕ) (p : Layout) (n : �
   pub left_count : length f.left ≡ workers p
   pub stopped_is : f.stopped ≡ (standing p n history).stopped
   pub left_are : f.left ≡ (standing p n history).left
-
--- Workers with an item: what they are to do, and where they wait for room.
-
--- There is a stage k, its queue is full, and the floor isn't stopped: a later take from that queue makes room.
-pub record HasNoRoom (p : Layout) (s : State) (k : ℕ) : Type 0 where
-  pub within : k < stages p
-  pub full : capacity_at p k ≤ length (queue_at s k)
-  pub running : s.stopped ≡ false
-
--- What a worker is to do with an item: at the worker's own stage, from the steps that are done up to the stage's cut.
-pub record IsTask (p : Layout) (worker stage cut done : ℕ) : Type 0 where
-  pub known : worker < workers p
-  pub at : stage ≡ stage_at p worker
-  pub within : stage < stages p
-  pub ends : cut ≡ cut_at p stage
-  pub bound : cut ≤ last_cut p
-  pub begun : done ≤ cut

@@ -176,14 +176,6 @@ all_left s = all_true s.left
 abbrev pub all_done : State → Bool
 all_done s = all_true s.done
 
--- how many workers have left
-abbrev pub count_left : List Bool → ℕ
-count_left [] = 0
-count_left (b ∷ bs) = (if b then 1 else 0) + count_left bs
-
-abbrev pub left_on : State → ℕ
-left_on s = count_left s.left
-
 -- whether an event stops the floor: a back or the halt
 abbrev pub is_stop : Event → Bool
 is_stop (Feed n) = false

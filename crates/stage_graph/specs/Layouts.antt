@@ -70,11 +70,6 @@ pub record IsPlan (p : Layout) : Type 0 where
 
 -- Items that are to be carried through a floor, in lots.
 
--- The items, in their order, and the plan of the floor that is to carry them.
-pub record Load (T : Type 0) : Type 0 where
-  pub plan : Layout
-  pub items : List T
-
 -- the most items in a lot: one at least, and no more than the queue of each stage has room for
 pub record IsLotSize (plan : Layout) (size : ℕ) : Type 0 where
   pub some : 0 < size

@@ -18,6 +18,15 @@ pub trait Named: Drop {
         ensures { result ≡ done_of self.now };
 }
 
+/// What a gate is told of an item: how many stages come before those of its floor, its number, and the one after it.
+/// For an item that stands for several, the number of the first of them, and the one after the last.
+#[derive(Clone, Copy)]
+pub struct Span {
+    pub stages: usize,
+    pub first: usize,
+    pub end: usize,
+}
+
 /// Steps that are done to items, one after another.
 ///
 /// Each step is a definition: `step k` is the value of an item before it and gives the value after it. An item
@@ -50,6 +59,16 @@ pub trait Chain {
         ensures err { IfErr result
             (λ x. (Self.Item.number_of x ≡ Self.Item.number_of item)
             × (Self.Item.done_of x ≡ Self.Item.done_of item)) };
+
+    /// What a gate is told of an item.
+    fn span(&self, item: &Self::Item) -> Span {
+        let number = item.number();
+        Span {
+            stages: 0,
+            first: number,
+            end: number.saturating_add(1),
+        }
+    }
 
     ghost holds: { (x : Self.Item)
         → content x ≡ value_of step (Self.Item.done_of x) (input_at (Self.Item.number_of x)) };

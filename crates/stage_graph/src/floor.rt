@@ -11,14 +11,16 @@ ghost use Rattle.stage_graph.specs.Layouts.{Layout, IsPlan, stages, workers, sta
 ghost use Rattle.stage_graph.specs.Layouts.{is_last};
 ghost use Rattle.stage_graph.specs.Floors.{standing, queue_at, hand_at, has_left, is_nil, idle_before, is_drained};
 ghost use Rattle.stage_graph.specs.Floors.{is_at, first, is_allowed, feed_cause, take_cause, give_cause, back_cause};
-ghost use Rattle.stage_graph.specs.Floors.{leave_cause, halt_cause, is_legal_from_opening, all_left, all_done, left_on};
+ghost use Rattle.stage_graph.specs.Floors.{leave_cause, halt_cause, is_legal_from_opening, all_left, all_done};
 ghost use Rattle.stage_graph.specs.Floors.{has_stop};
 ghost use Rattle.stage_graph.specs.Through.{IsWhole};
 
 mod causes;
 mod events;
+mod held;
 
 use crate::{Chain, Event, History, Named, Plan, Unrun};
+pub(crate) use held::{Held, Picked};
 use stage_queue::{Memory, Queue, Slots};
 use std::alloc::Global;
 use std::collections::VecDeque;
@@ -249,8 +251,6 @@ impl<C: Chain, N: RunName> Run<C, N> {
 
     // The items by number, and the accepted events.
     pub(crate) fn into_parts(self) -> (Vec<C::Item>, History)
-        ensures values { map C.content result.0.items
-            ≡ map (λ k. value_of C.step (last_cut N.plan) (C.input_at k)) (range_with_len 0 N.count) }
         ensures history { result.1 ≡ self }
         ensures whole { IsWhole N.plan N.count result.1 }
     {

@@ -1,28 +1,31 @@
 //! A staged floor. Items pass through stages, each with a bounded queue and workers that take from it.
 //!
 //! `Floor` is the core, a state machine without threads: right under every list of events, by any workers in
-//! any order. `run_floor` runs one in threads, and `run_through` one on which items travel in lots. `replay_history`
-//! checks the history of one.
+//! any order. `run_floor` runs one in threads. A `Crew` moves one after another by threads that stay, and takes lots of
+//! items through them. `replay_history` checks the history of one.
 #![tactic(auto)]
 
+mod carries;
 mod chain;
+mod crew;
 mod event;
 mod floor;
 mod legality;
-mod lot_gate;
-mod lots;
-mod lotted;
+mod notes;
 mod plan;
 mod run;
+mod steps;
 mod unrun;
 
-pub use chain::{Chain, Named};
+pub use carries::Carries;
+pub use chain::{Chain, Named, Span};
+pub use crew::{Arrived, Before, Crew, Travel, beside};
 pub use event::{Cause, Event, History};
 pub use floor::{Floor, Run, RunName};
 pub use legality::{Checked, replay_history};
-pub use lots::{Carried, run_through};
-pub use lotted::Lotted;
+pub use notes::{Naming, Opened, Register};
 pub use plan::{Plan, PlanFault};
 pub use run::{Gate, NoGate, run_floor};
 pub use stage_queue::Memory;
+pub use steps::Steps;
 pub use unrun::Unrun;

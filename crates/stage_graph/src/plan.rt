@@ -1,7 +1,7 @@
 //! A plan: how steps are cut into stages, with their workers and the capacities of their queues.
 
 ghost use Rattle.std.specs.Prelude.{◌≡◌, ℕ, ◌*◌, ◌<◌, ◌≤◌, length, nat_le, nat_eq, ◌&&◌, ◌||◌, IfOk, OnOk, ◌++◌};
-ghost use Rattle.std.specs.Prelude.{replicate, None};
+ghost use Rattle.std.specs.Prelude.{replicate, None, IsTrue};
 ghost use Rattle.stage_graph.specs.Floors.{idle_before};
 ghost use Rattle.stage_graph.specs.After.{last_cut};
 ghost use Rattle.stage_graph.specs.PlanFaults.{plan_fault, AnswersFault};
@@ -109,8 +109,8 @@ impl Plan {
         })
     }
 
-    // The least capacity of a queue, or this number if that is less.
-    pub(crate) fn least_capacity(&self, most: usize) -> usize
+    /// The least capacity of a queue, or this number if that is less: a lot of so many items has room in each queue.
+    pub fn least_capacity(&self, most: usize) -> usize
         requires { 0 < most }
         ensures { IsLotSize self.now result }
     {
@@ -119,6 +119,15 @@ impl Plan {
             least = least.min(self.capacities[stage]);
         }
         least
+    }
+
+    // Whether both are one plan.
+    pub(crate) fn is_same(&self, other: &Plan) -> bool
+        ensures { IsTrue result → self.now ≡ other.now }
+    {
+        self.cuts.as_slice() == other.cuts.as_slice()
+            && self.posts.as_slice() == other.posts.as_slice()
+            && self.capacities.as_slice() == other.capacities.as_slice()
     }
 
     /// How many stages there are.

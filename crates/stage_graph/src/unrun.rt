@@ -10,8 +10,7 @@ use thiserror::Error;
 /// Why there is no run. The items are dropped.
 #[derive(Drop, Debug, Error)]
 pub enum Unrun {
-    /// Memory ran out, or no thread could be started, before any worker had started. From `run_through` also: memory
-    /// ran out, or one of its threads could not be started, when others had worked.
+    /// Memory ran out: from `run_floor`, before any worker had started; from `Crew::run` also after the floor.
     #[error("out of memory")]
     Memory,
     /// The floor was stopped. Its history has a `Back` or a `Halt`.

@@ -3,13 +3,10 @@
 ghost use Rattle.std.specs.Prelude.{◌≡◌, ℕ, ◌+◌, ◌*◌, ◌%◌, ◌^◌, ◌<◌, List, IfOk, slice_index, map, length};
 ghost use Rattle.stage_graph.specs.Steps.{value_of};
 ghost use Rattle.stage_graph.specs.After.{last_cut, with_steps};
-ghost use Rattle.stage_graph.specs.Through.{HasGoneThrough};
 ghost use Rattle.std.specs.List.{range_with_len};
 
-use stage_graph::{
-    Carried, Chain, Gate, History, Lotted, Named, Plan, Run, RunName, Unrun, run_floor, run_through,
-};
-use std::alloc::{AllocError, Global};
+use stage_graph::{Chain, Gate, History, Named, Plan, Run, RunName, Unrun, run_floor};
+use std::alloc::Global;
 use std::marker::{Brand, PhantomData};
 use std::sync::Wait;
 use std::thread::Threads;
@@ -168,7 +165,7 @@ fn sums_with<K: Sums + RunName + Send + Sync, G: Gate + Sync, R: Threads + Wait 
     alloc: Global,
     plan: Plan,
     addends: &[u64],
-    refused: Option<usize>,
+    refused: Option<Refusal>,
     inputs: &[u64],
     gate: &G,
 ) -> Result<(Vec<u64>, History), Unrun>
@@ -182,7 +179,6 @@ fn sums_with<K: Sums + RunName + Send + Sync, G: Gate + Sync, R: Threads + Wait 
         (value_of (λ k x. (x * 2 + slice_index addends.now k) % 2 ^ 64) (length addends.now)) inputs.now) }
 {
     let items = items_of::<K>(alloc, inputs)?;
-    let refused = refused.map(|step| Refusal { step, item: None });
     let chain = chain_over::<K>(addends, refused);
     let run = run_floor::<Adding<K>, K, G, R>(rt, alloc, plan, &chain, items, gate)?;
     let (items, history) = parts_of(alloc, run)?;
@@ -209,7 +205,7 @@ pub fn sums_of<G: Gate + Sync, R: Threads + Wait + Sync>(
     alloc: Global,
     plan: Plan,
     addends: &[u64],
-    refused: Option<usize>,
+    refused: Option<Refusal>,
     inputs: &[u64],
     gate: &G,
 ) -> Result<(Vec<u64>, History), Unrun>
@@ -219,90 +215,4 @@ pub fn sums_of<G: Gate + Sync, R: Threads + Wait + Sync>(
         (value_of (λ k x. (x * 2 + slice_index addends.now k) % 2 ^ 64) (length addends.now)) inputs.now) }
 {
     sums_with::<Brand, G, R>(rt, alloc, plan, addends, refused, inputs, gate)
-}
-
-// How items come into lots: for how many the lots are made, and the numbers of the items behind which one is ended.
-#[derive(Clone, Copy)]
-pub struct Packing<'a> {
-    pub count: usize,
-    pub ends: &'a [usize],
-}
-
-// Ends a lot where it is to be ended. It is told so twice: there is none to be ended then.
-fn end_where<T: Drop>(alloc: Global, lotted: &mut Lotted<T>, is_end: bool) -> Result<(), AllocError>
-    ensures { lotted.new ≡ lotted.old }
-{
-    if is_end {
-        lotted.end_lot(alloc)?;
-        lotted.end_lot(alloc)?;
-    }
-    Ok(())
-}
-
-// The items in lots.
-fn lotted<T: Named>(
-    alloc: Global,
-    plan: Plan,
-    packing: Packing<'_>,
-    items: Vec<T>,
-) -> Result<Lotted<T>, Unrun>
-    ensures plan { IfOk result (λ l. l.plan ≡ plan) }
-    ensures items { IfOk result (λ l. l.items ≡ items.items) }
-{
-    let mut lotted = Lotted::new(alloc, plan, packing.count)?;
-    for item in items {
-        let is_end = packing.ends.contains(&item.number());
-        lotted.push(alloc, item)?;
-        end_where(alloc, &mut lotted, is_end)?;
-    }
-    Ok(lotted)
-}
-
-fn lots_with<K: Sums + Send + Sync, G: Gate + Sync, R: Threads + Wait + Sync>(
-    rt: &R,
-    alloc: Global,
-    threads: usize,
-    plan: Plan,
-    addends: &[u64],
-    refused: Option<Refusal>,
-    packing: Packing<'_>,
-    inputs: &[u64],
-    gate: &G,
-) -> Result<(Vec<u64>, History), Unrun>
-    requires inputs { inputs.now ≡ K.inputs }
-    requires addends { addends.now ≡ K.addends }
-    requires cut { last_cut plan ≡ length addends.now }
-    ensures { IfOk result (λ r. HasGoneThrough plan (length inputs.now) r.1) }
-{
-    let items = lotted(alloc, plan, packing, items_of::<K>(alloc, inputs)?)?;
-    let chain = chain_over::<K>(addends, refused);
-    let carried = run_through::<Adding<K>, G, R>(rt, alloc, threads, &chain, items, gate)?;
-    let Carried { lots, history } = carried;
-    let mut values = Vec::with_capacity(alloc, inputs.len())?;
-    for lot in lots {
-        let mut more = values_of(alloc, lot)?;
-        values.append(&mut more)?;
-    }
-    Ok((values, history))
-}
-
-// The sums of all inputs by the chain over a table, and the history of the run, by so many threads at most where the
-// gate never holds an item.
-pub fn sums_through<G: Gate + Sync, R: Threads + Wait + Sync>(
-    rt: &R,
-    alloc: Global,
-    threads: usize,
-    plan: Plan,
-    addends: &[u64],
-    refused: Option<Refusal>,
-    packing: Packing<'_>,
-    inputs: &[u64],
-    gate: &G,
-) -> Result<(Vec<u64>, History), Unrun>
-    requires { last_cut plan ≡ length addends.now }
-    ensures { IfOk result (λ r. HasGoneThrough plan (length inputs.now) r.1) }
-{
-    lots_with::<Brand, G, R>(
-        rt, alloc, threads, plan, addends, refused, packing, inputs, gate,
-    )
 }

@@ -1,6 +1,6 @@
 //! Gates that see each enter and leave, on a give and on a back.
 use crate::floors::Lists;
-use crate::threads::{is_legal, sums};
+use crate::threads::{is_legal, refusal, sums};
 use stage_graph::{Gate, Unrun};
 use std::sync::atomic::{AtomicU64, Ordering};
 use std::test::*;
@@ -103,11 +103,60 @@ fn gate_at_a_give(rt: HostRuntime) -> Result<(), Fail> {
 #[test]
 fn gate_at_a_back(rt: HostRuntime) -> Result<(), Fail> {
     let gate = new_watch(rt.clone()?, [(1, 1, 12345), (1, 12, 123456)]);
-    let Err(Unrun::Stopped(history)) = sums(&rt, rt.alloc(), LISTS, Some(1), &[5, 6, 7], &gate)
+    let Err(Unrun::Stopped(history)) = sums(&rt, rt.alloc(), LISTS, refusal(1), &[5, 6, 7], &gate)
     else {
         panic!(rt; "the floor was not stopped");
     };
     assert_eq!(rt; gate.written(), (123456, 12, 0, 0));
     assert!(rt; is_legal(rt.alloc(), LISTS, 3, &history));
+    Ok(())
+}
+
+// Counts the items that are inside one stage, and the most that ever were. Each stays a while when it leaves.
+#[derive(Drop)]
+struct Inside {
+    stage: usize,
+    inside: AtomicU64,
+    most: AtomicU64,
+    turns: AtomicU64,
+}
+
+impl Gate for Inside {
+    fn enter(&self, stage: usize, _number: usize) {
+        if stage == self.stage {
+            let others = self.inside.fetch_add(1, Ordering::SeqCst);
+            self.most
+                .fetch_max(others.wrapping_add(1), Ordering::SeqCst);
+        }
+    }
+
+    fn left(&self, stage: usize, _number: usize) {
+        if stage == self.stage {
+            for _ in 0..1000 {
+                self.turns.fetch_add(1, Ordering::SeqCst);
+            }
+            self.inside.fetch_sub(1, Ordering::SeqCst);
+        }
+    }
+}
+
+// A worker's next item enters once its last one has left: never more are inside a stage than it has workers.
+#[test]
+fn no_more_inside_than_workers(rt: HostRuntime) -> Result<(), Fail> {
+    let lists: Lists = (&[1, 2, 3], &[3, 1, 2], &[2, 1, 4]);
+    for (stage, workers) in [3, 1, 2].iter().enumerate() {
+        for _ in 0..20 {
+            let gate = Inside {
+                stage,
+                inside: AtomicU64::new(0),
+                most: AtomicU64::new(0),
+                turns: AtomicU64::new(0),
+            };
+            let (_, history) = sums(&rt, rt.alloc(), lists, None, &[7; 40], &gate)?;
+            assert!(rt; is_legal(rt.alloc(), lists, 40, &history));
+            assert_eq!(rt; gate.inside.load(Ordering::SeqCst), 0);
+            assert!(rt; gate.most.load(Ordering::SeqCst) <= *workers);
+        }
+    }
     Ok(())
 }

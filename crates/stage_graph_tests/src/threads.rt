@@ -1,5 +1,5 @@
 //! Floors run by threads.
-use crate::adding::sums_of;
+use crate::adding::{Refusal, sums_of};
 use crate::floors::plan_of;
 use stage_graph::{Checked, Event, Gate, History, NoGate, Unrun, replay_history};
 use std::alloc::Global;
@@ -23,7 +23,7 @@ pub fn sums<G: Gate + Sync, R: Threads + Wait + Sync>(
     rt: &R,
     alloc: Global,
     lists: (&[usize], &[usize], &[usize]),
-    refused: Option<usize>,
+    refused: Option<Refusal>,
     inputs: &[u64],
     gate: &G,
 ) -> Sums {
@@ -36,17 +36,31 @@ pub fn sums<G: Gate + Sync, R: Threads + Wait + Sync>(
     sums_of(rt, alloc, plan, &[1, 10, 100], refused, inputs, gate)
 }
 
-// Whether a history is legal on a floor.
+// A step that is refused to each item.
+pub fn refusal(step: usize) -> Option<Refusal> {
+    Some(Refusal { step, item: None })
+}
+
+// Whether a history is legal on a floor, if there is the memory to check it.
+pub fn verdict(
+    alloc: Global,
+    lists: (&[usize], &[usize], &[usize]),
+    count: usize,
+    history: &History,
+) -> Option<bool> {
+    let plan = plan_of(alloc, lists.0, lists.1, lists.2)?;
+    let checked = replay_history(alloc, plan, count, history.as_slice()).ok()?;
+    Some(checked == Checked::Legal)
+}
+
+// Whether a history was found to be legal on a floor.
 pub fn is_legal(
     alloc: Global,
     lists: (&[usize], &[usize], &[usize]),
     count: usize,
     history: &History,
 ) -> bool {
-    match plan_of(alloc, lists.0, lists.1, lists.2) {
-        Some(plan) => replay_history(alloc, plan, count, history.as_slice()) == Ok(Checked::Legal),
-        None => false,
-    }
+    verdict(alloc, lists, count, history) == Some(true)
 }
 
 // Counts the items that go in and out.
@@ -119,6 +133,87 @@ fn every_cut(rt: HostRuntime) -> Result<(), Fail> {
         &inputs,
     )?;
     Ok(())
+}
+
+// Queues with room for one item, so that who gives one often waits for room: each of many runs ends, with each sum. The
+// gate may hold an item, as far as the floor knows.
+#[test]
+fn many_runs_with_full_queues(rt: HostRuntime) -> Result<(), Fail> {
+    let inputs = [3; 64];
+    for _ in 0..200 {
+        try_plan(
+            &rt,
+            rt.alloc(),
+            (&[1, 2, 3], &[3, 1, 2], &[1, 1, 1]),
+            &inputs,
+        )?;
+    }
+    Ok(())
+}
+
+// A gate that keeps who enters a later stage busy for a while, so that others find its queue full. It may be open.
+#[derive(Drop)]
+struct Busy {
+    turns: AtomicU64,
+    open: bool,
+}
+
+impl Gate for Busy {
+    fn enter(&self, stage: usize, _number: usize) {
+        if stage == 0 {
+            return;
+        }
+        for _ in 0..1000 {
+            self.turns.fetch_add(1, Ordering::SeqCst);
+        }
+    }
+
+    fn left(&self, _stage: usize, _number: usize) {}
+
+    fn is_open(&self) -> bool {
+        self.open
+    }
+}
+
+// The history of a floor of 64 items that was stopped, since one step was refused to one item.
+fn stopped_at<R: Threads + Wait + Sync + Abort>(
+    rt: &R,
+    alloc: Global,
+    lists: (&[usize], &[usize], &[usize]),
+    refusal: Refusal,
+    open: bool,
+) -> History {
+    let gate = Busy {
+        turns: AtomicU64::new(0),
+        open,
+    };
+    match sums(rt, alloc, lists, Some(refusal), &[3; 64], &gate) {
+        Err(Unrun::Stopped(history)) => history,
+        _ => panic!(rt; "the floor was not stopped"),
+    }
+}
+
+// Queues with room for one item, and one later item that is refused a step: who waits for room then ends too, and the
+// history of each of many runs is legal. The item was sent back once, and not given on.
+#[test]
+fn many_stopped_runs_with_full_queues(rt: HostRuntime) {
+    let lists: (&[usize], &[usize], &[usize]) = (&[1, 2, 3], &[3, 1, 2], &[1, 1, 1]);
+    for run in 0..500usize {
+        let (step, number) = (run % 3, 8 + run % 50);
+        let item = Some(number);
+        let history = stopped_at(&rt, rt.alloc(), lists, Refusal { step, item }, run % 2 == 0);
+        assert!(rt; is_legal(rt.alloc(), lists, 64, &history));
+        let events = history.as_slice();
+        let backs = events
+            .iter()
+            .filter(|e| matches!(e, Event::Back(_, back) if *back == number))
+            .count();
+        let leaves = events
+            .iter()
+            .filter(|e| matches!(e, Event::Leave(_)))
+            .count();
+        assert_eq!(rt; (backs, leaves), (1, 6), "item {number} at step {step}");
+    }
 }
 
 #[test]
@@ -207,7 +302,7 @@ fn refused<R: Threads + Wait + Sync>(rt: &R, alloc: Global) -> Sums {
     if plan.steps() != 2 {
         return Err(Unrun::Memory);
     }
-    sums_of(rt, alloc, plan, &[1, 10], Some(1), &[5], &NoGate)
+    sums_of(rt, alloc, plan, &[1, 10], refusal(1), &[5], &NoGate)
 }
 
 #[test]
@@ -234,7 +329,7 @@ fn refused_steps(rt: HostRuntime) -> Result<(), Fail> {
     let inputs = [3; 50];
     let lists: (&[usize], &[usize], &[usize]) = (&[1, 2, 3], &[3, 2, 2], &[1, 1, 1]);
     for step in 0..3usize {
-        let Err(Unrun::Stopped(history)) = sums(&rt, alloc, lists, Some(step), &inputs, &NoGate)
+        let Err(Unrun::Stopped(history)) = sums(&rt, alloc, lists, refusal(step), &inputs, &NoGate)
         else {
             panic!(rt; "the floor was not stopped at step {step}");
         };

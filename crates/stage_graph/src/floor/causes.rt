@@ -10,7 +10,7 @@ ghost use Rattle.stage_graph.specs.Layouts.{Layout, IsPlan, stages, workers, sta
 ghost use Rattle.stage_graph.specs.Layouts.{is_last};
 ghost use Rattle.stage_graph.specs.Floors.{standing, queue_at, hand_at, has_left, is_nil, idle_before, is_drained};
 ghost use Rattle.stage_graph.specs.Floors.{is_at, first, is_allowed, feed_cause, take_cause, give_cause, back_cause};
-ghost use Rattle.stage_graph.specs.Floors.{leave_cause, halt_cause, is_legal_from_opening, all_left, all_done, left_on};
+ghost use Rattle.stage_graph.specs.Floors.{leave_cause, halt_cause, is_legal_from_opening, all_left, all_done};
 ghost use Rattle.stage_graph.specs.Floors.{has_stop};
 
 use super::{Floor, RunName};
@@ -36,17 +36,6 @@ impl<C: Chain, N: RunName> Floor<C, N> {
             (length (queue_at (standing N.plan N.count self.now) stage)) }
     {
         self.queues[stage].is_full()
-    }
-
-    // How many items wait in the queue of a stage, and how many fit.
-    pub(crate) fn load(&self, stage: usize) -> (usize, usize)
-        requires { stage < stages N.plan }
-        ensures waiting { result.0 ≡ length (queue_at (standing N.plan N.count self.now) stage) }
-        ensures capacity { result.1 ≡ capacity_at N.plan stage }
-        ensures bound { result.0 ≤ result.1 }
-    {
-        let queue = &self.queues[stage];
-        (queue.len(), queue.capacity())
     }
 
     pub(super) fn has_left(&self, worker: usize) -> bool

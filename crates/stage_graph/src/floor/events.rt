@@ -10,7 +10,7 @@ ghost use Rattle.stage_graph.specs.Layouts.{Layout, IsPlan, stages, workers, sta
 ghost use Rattle.stage_graph.specs.Layouts.{is_last};
 ghost use Rattle.stage_graph.specs.Floors.{standing, queue_at, hand_at, has_left, is_nil, idle_before, is_drained};
 ghost use Rattle.stage_graph.specs.Floors.{is_at, first, is_allowed, feed_cause, take_cause, give_cause, back_cause};
-ghost use Rattle.stage_graph.specs.Floors.{leave_cause, halt_cause, is_legal_from_opening, all_left, all_done, left_on};
+ghost use Rattle.stage_graph.specs.Floors.{leave_cause, halt_cause, is_legal_from_opening, all_left, all_done};
 ghost use Rattle.stage_graph.specs.Floors.{has_stop};
 
 use super::{Floor, RunName, put};

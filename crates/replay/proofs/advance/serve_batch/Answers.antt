@@ -15,7 +15,7 @@ merge-requires g c =
     lists_count _ next.0 next.1 next.2 _ _ _ _ next.3 c.in_ok-seats.ensures
 
 pub serve_parts-requires-clause-next : goal.serve_parts-requires-clause-next
-serve_parts-requires-clause-next g c = λ κs lives.
+serve_parts-requires-clause-next g c =
     let next = c.requires.next in
     let found = c.in_ok-pieces.ensures in
     let b = brings _ next.0 next.1 next.2 _ _ _ _ _ _ _ next.3 c.in_ok-seats.ensures found.origins found.found found.seats c.in_ok-parts.ensures.joined in

@@ -8,7 +8,7 @@ use Rattle.replay.proofs.advance.serve_next_batch.Goals as goal
 pub returns-in_err-batch-clause-fault : goal.returns-in_err-batch-clause-fault
 returns-in_err-batch-clause-fault g c =
     passed_on c.from_residual.result _ _
-    (λ f same. rw same (λ version text begun b. none_leaves (terms_of g.F.Tree.files c.args.server.now) _ version text begun _ _ _ _ _ _ b))
+    (λ f same. rw same (λ version text begun b. none_leaves (terms_of g.F.Tree.files c.args.floors.now.serving.now.server) _ version text begun _ _ _ _ _ _ b))
     c.from_residual.ensures.1
 
 pub serve_batch-requires-clause-next : goal.serve_batch-requires-clause-next
@@ -18,14 +18,14 @@ serve_batch-requires-clause-next g c = λ κs within.
     let batch = c.in_ok-batch.ensures.batch in
     let tiers = batch.2 b.records b.tiers_are in
     let on = batch.3 given.0 _ _ b.records b.read in
-    let next = come_next (terms_of g.F.Tree.files c.args.server.now) _ _ _ b.records batch.0 b.arrivals _ _ _ _ _ given.0 b.answered.serves b.idle batch.1 (c.deref.ensures.value ∙ tiers.0) on.fits refl in
+    let next = come_next (terms_of g.F.Tree.files c.args.floors.now.serving.now.server) _ _ _ b.records batch.0 b.arrivals _ _ _ _ _ given.0 b.answered.serves b.idle batch.1 (c.deref.ensures.value ∙ tiers.0) on.fits refl in
     rw c.replace-waiting.ensures.value (b.records, batch.0, b.arrivals, next)
 
 pub returns-in_err-seats-clause-fault : goal.returns-in_err-seats-clause-fault
 returns-in_err-seats-clause-fault g c =
     passed_on c.from_residual-in_err-seats.result _ _
     (λ f same. rw same (λ version text begun b.
-    (let terms = terms_of g.F.Tree.files c.args.server.now in
+    (let terms = terms_of g.F.Tree.files c.args.floors.now.serving.now.server in
     let batch = c.in_ok-batch.ensures.batch in
     let tiers = batch.2 b.records b.tiers_are in
     let on = batch.3 version _ _ b.records b.read in
@@ -44,7 +44,7 @@ returns-in_err-seats-clause-fault g c =
 
 pub returns-in-More-clause-on : goal.returns-in-More-clause-on
 returns-in-More-clause-on g c = λ version text begun b.
-    (let terms = terms_of g.F.Tree.files c.args.server.now in
+    (let terms = terms_of g.F.Tree.files c.args.floors.now.serving.now.server in
     let batch = c.in_ok-batch.ensures.batch in
     let tiers = batch.2 b.records b.tiers_are in
     let on = batch.3 version _ _ b.records b.read in
@@ -54,7 +54,7 @@ returns-in-More-clause-on g c = λ version text begun b.
 
 pub returns-in-End-clause-on : goal.returns-in-End-clause-on
 returns-in-End-clause-on g c = λ version text begun b.
-    (let terms = terms_of g.F.Tree.files c.args.server.now in
+    (let terms = terms_of g.F.Tree.files c.args.floors.now.serving.now.server in
     let batch = c.in_ok-batch.ensures.batch in
     let tiers = batch.2 b.records b.tiers_are in
     let on = batch.3 version _ _ b.records b.read in
@@ -66,7 +66,7 @@ returns-in-End-clause-on g c = λ version text begun b.
 
 pub returns-clause-fault : goal.returns-clause-fault
 returns-clause-fault g c = λ version text begun b.
-    (let terms = terms_of g.F.Tree.files c.args.server.now in
+    (let terms = terms_of g.F.Tree.files c.args.floors.now.serving.now.server in
     let batch = c.in_ok-batch.ensures.batch in
     let tiers = batch.2 b.records b.tiers_are in
     let on = batch.3 version _ _ b.records b.read in

@@ -10,7 +10,7 @@ pub loop-group-init : goal.loop-group-init
 loop-group-init g c = (answered_none _ _ _ _ (search rules), refl)
 
 pub answer_group-requires-clause-ready : goal.answer_group-requires-clause-ready
-answer_group-requires-clause-ready g c = λ κs lives.
+answer_group-requires-clause-ready g c =
     rw c.into_vec.ensures (group_ready (λ t. is_back g.F.Tree.files (Waits t)) g.F.Tree.files _ c.in-Some.group _ _ _ _ c.loop-group.invariant.0 c.in-Some.ensures.steps.0 c.requires.ready)
 
 pub loop-group-preserved : goal.loop-group-preserved

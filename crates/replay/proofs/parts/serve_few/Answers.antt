@@ -17,10 +17,10 @@ returns-clause-stands g c = ok_all c.answer_all_pending.result _ (λ arrivals mo
 
 pub returns-clause-written : goal.returns-clause-written
 returns-clause-written g c = ok_more c.answer_all_pending.result _ _
-    (λ written arrivals more up. rw (replies_are _ (terms_of g.F.Tree.files c.args.server.now) c.args.desk.now.start _ _ _ (c.in_ok-pending_replies.ensures.slips arrivals more up) refl) at written)
+    (λ written arrivals more up. rw (replies_are _ (terms_of g.F.Tree.files c.args.floors.now.serving.now.server) c.args.desk.now.start _ _ _ (c.in_ok-pending_replies.ensures.slips arrivals more up) refl) at written)
     c.answer_all_pending.ensures.written
 
 pub returns-clause-part : goal.returns-clause-part
 returns-clause-part g c = err_more c.answer_all_pending.result _ _
-    (λ part arrivals more up. rw (replies_are _ (terms_of g.F.Tree.files c.args.server.now) c.args.desk.now.start _ _ _ (c.in_ok-pending_replies.ensures.slips arrivals more up) refl) at part)
+    (λ part arrivals more up. rw (replies_are _ (terms_of g.F.Tree.files c.args.floors.now.serving.now.server) c.args.desk.now.start _ _ _ (c.in_ok-pending_replies.ensures.slips arrivals more up) refl) at part)
     c.answer_all_pending.ensures.part

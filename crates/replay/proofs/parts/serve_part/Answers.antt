@@ -23,7 +23,7 @@ returns-then-len-room-clause-part g c =
     c.serve_few.ensures.part
 
 pub serve_few-requires-2-clause-next : goal.serve_few-requires-2-clause-next
-serve_few-requires-2-clause-next g c = λ κs lives.
+serve_few-requires-2-clause-next g c =
     let next = c.requires.next in
     let room = c.args.floors.now.most - c.args.desk.now.totals.answered in
     let is = answered_is _ next.0 _ next.2.stands.counted in

@@ -9,7 +9,7 @@ pub loop-part-init : goal.loop-part-init
 loop-part-init g c = (served_none _ _ _ _ _ (search rules), refl, c.requires.limit.0)
 
 pub serve_part-requires-clause-next : goal.serve_part-requires-clause-next
-serve_part-requires-clause-next g c = λ κs lives.
+serve_part-requires-clause-next g c =
     let next = c.requires.next in
     let served = c.loop-part.invariant.0 in
     (next.0 ++ take served.count next.1, take (length c.in-Some.part) (drop served.count next.1), next_come_as _ _ _ c.in-Some.part _ _ _ _ _ _ next.0 next.1 served c.in-Some.ensures.steps.0 c.into_vec.ensures next.2)

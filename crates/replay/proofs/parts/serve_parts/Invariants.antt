@@ -8,5 +8,5 @@ use Rattle.replay.proofs.parts.serve_parts.Given as goal
 -- some of the parts are served
 abbrev pub invariant-loop-part : goal.invariant-loop-part
 invariant-loop-part g l =
-    Served (terms_of g.F.Tree.files l.server) (joined l.fn.parts.items) l.fn.desk l.desk l.fn.writer.bytes l.writer.bytes (into_iter_items l.part-iterator) × (l.writer.failures ≡ l.fn.writer.failures)
+    Served (terms_of g.F.Tree.files l.floors.serving.now.server) (joined l.fn.parts.items) l.fn.desk l.desk l.fn.writer.bytes l.writer.bytes (into_iter_items l.part-iterator) × (l.writer.failures ≡ l.fn.writer.failures)
     × (l.desk.totals.answered ≤ l.floors.most)

@@ -1,13 +1,7 @@
-use Rattle.std.proofs.Common.{◌≡◌}
-use Rattle.reference.specs.Reference.{terms_of}
-use Rattle.replay.specs.Between.{Between}
 use Rattle.replay.proofs.staged.staged_replay.Given as goal
 
--- some records were read, the messages that arrived with them are answered, and nothing waits
-abbrev pub invariant-loop-messages : goal.invariant-loop-messages
-invariant-loop-messages g l =
-    Between (terms_of g.F.Tree.files l.settings) l.floors.most l.version l.fn.reader.bytes l.fn.writer.bytes l.capture.progress l.capture.input.now.bytes l.tiers l.seats l.desk l.writer.bytes
-    × (l.capture.input.ghost_name ≡ l.initial.capture.input.ghost_name) × (l.capture.input.now.failures ≡ l.fn.reader.failures) × (l.writer.failures ≡ l.fn.writer.failures)
+abbrev pub ghosts-replay_named-K-Pricing : goal.ghosts-replay_named-K-Pricing
+ghosts-replay_named-K-Pricing g a = record { tariff = a.server.tariff }
 
-abbrev pub decreases-loop-messages : goal.decreases-loop-messages
-decreases-loop-messages g l = l.capture.progress.room
+abbrev pub ghosts-replay_named-J-Naming : goal.ghosts-replay_named-J-Naming
+ghosts-replay_named-J-Naming g a = record { book = a.register }
