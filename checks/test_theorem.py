@@ -16,6 +16,7 @@ REFERENCE, CHOICES, DEVICES, STAGED = (
 SETTINGS, INPUT, MESSAGES = (
     "crates/reference/src/settings.rt", "crates/devices/src/device.rt", "crates/http_requests/src/messages.rt")
 PROOFS = "crates/replay/proofs/Lib.antt"
+ANSWERED = "    ensures ok { IfOk result\n        (Answers (terms_of F.files settings.now)"
 SNAPSHOT, COSTS = "crates/paths/src/snapshot.rt", "crates/cost_model/specs/Reference.antt"
 # What is said, with N for each number.
 STALE = "docs/CLAIM.md: line N is not what the sources say; write it by checks/theorem.py --page"
@@ -49,7 +50,8 @@ WRONG = [
      [STALE]),
     ("a trait's member", [(SNAPSHOT, "ghost files: { List File };", "ghost files: { List ℕ };")], [STALE]),
     ("another type of a field", [("crates/admission/src/control.rt", RATE, RATE.replace("u64", "u32"))], [STALE]),
-    ("a premise", [(STAGED, "    ensures ok {", "    requires { settings.now.speed ≡ 100 }\n    ensures ok {")],
+    ("a premise", [(STAGED, "    requires snapshot",
+                    "    requires { settings.now.speed ≡ 100 }\n    requires snapshot")],
      [ROW % "replay", TOTAL, STALE]),
     ("a comment", [(REFERENCE, "-- what requests come to\n", "-- what requests cost\n")], [STALE]),
     ("a comment of a part", [(REFERENCE, "-- What an operator sets.\n", "-- What is set.\n")], [STALE]),
@@ -91,7 +93,7 @@ WRONG = [
      ["crates/reference/src/summary.rt: no type Versions", STALE]),
     ("a model without a view", [(SETTINGS, "    ghost view = {", "    ghost sight = {")],
      ["crates/reference/src/settings.rt: no view of Settings", ...]),
-    ("no clause", [(STAGED, "    ensures ok {", "    ensures fine {")],
+    ("no clause", [(STAGED, ANSWERED, ANSWERED.replace("ok", "fine"))],
      ["crates/replay/src/staged.rt: no clause ok of pub fn staged_replay<"]),
     # The pages.
     ("another text of the page", [(CLAIM, "terms_of files c = record {", "terms_of files d = record {")], [STALE]),
@@ -112,7 +114,8 @@ RIGHT = [
     ("a field that no view reads", [(SNAPSHOT, "use crate::name_index::NameIndex;\n", "")]),
     ("a derive", [(MESSAGES, "#[derive(Debug, PartialEq, Eq, Drop)]\npub enum Meaning", "pub enum Meaning")]),
     ("an import on several lines", [(REFERENCE, "Layouts.{Layout}", "Layouts.{\n  Layout,\n}")]),
-    ("another clause", [(STAGED, "BlamesReader reader_failures leaves", "BlamesReader  reader_failures leaves")]),
+    ("another clause", [(STAGED, "reply_texts (terms_of F.files settings.now)",
+                         "reply_texts  (terms_of F.files settings.now)")]),
     ("a body", [(STAGED, "let mut seats = Seats::new(alloc);", "let mut seats = None;")]),
 ]
 
