@@ -12,12 +12,14 @@ use clap::{Arg, ArgAction, Command};
 use std::alloc::{AllocError, Global};
 
 /// The version of the program and of its package.
-const VERSION: &str = "1.0.0";
+const VERSION: &str = "1.1.0";
 
 /// What help says after the commands.
 const PROGRAM_NOTES: &str =
     "Without a command, a snapshot directly followed by a capture is read from standard
 input, and the replies are written to standard output, with default settings.
+For the name of one input - is standard input; for the output of snapshot, upgrade and slim it is
+standard output.
 
 Examples:
   haboob snapshot --folder site --output site.snapshot

@@ -1,5 +1,5 @@
 -- What is said in words of a fault of the settings.
-use Rattle.std.specs.Prelude.{ℕ, ◌==◌, ◌&&◌, Bool, true, false, not, List, [], ◌∷◌, ◌++◌, length}
+use Rattle.std.specs.Prelude.{ℕ, ◌==◌, ◌-◌, ◌&&◌, Bool, true, false, not, List, [], ◌∷◌, ◌++◌, length}
 use Rattle.std.specs.Prelude.{Option, Some, None, codes, bytes_eq, nat_eq, nat_le, nat_lt, if◌then◌else◌}
 use Rattle.std.specs.Str.{chars}
 use Rattle.strsim.specs.Edits.{levenshtein_row}
@@ -29,17 +29,18 @@ fits_in (Some holder) key = not (is_table key) && bytes_eq (name_of (table_of ke
 abbrev pub is_longer : Key → Key → Bool
 is_longer key other = nat_lt (length (name_of other)) (length (name_of key))
 
--- of as many edits the key that may stand there is nearer, and of those the one with the longer name
-abbrev pub is_preferred : Option Key → Key → Key → Bool
-is_preferred within key other =
-    if fits_in within key then (if fits_in within other then is_longer key other else true)
-    else (if fits_in within other then false else is_longer key other)
+-- a key is closer to a name than another: by fewer edits, and of as many the one with the longer name
+abbrev pub is_closer : List ℕ → Key → Key → Bool
+is_closer name key other =
+    if edits name key == edits name other then is_longer key other else nat_lt (edits name key) (edits name other)
 
--- a key is nearer than another by fewer edits
+-- a key that may stand there is nearer than one that may not, unless that takes two edits fewer
 abbrev pub is_nearer : Misplaced → Key → Key → Bool
-is_nearer m key other =
-    if edits m.1 key == edits m.1 other then is_preferred m.0 key other
-    else nat_lt (edits m.1 key) (edits m.1 other)
+is_nearer (within, name) key other =
+    if fits_in within key then
+    (if fits_in within other then is_closer name key other else nat_le (edits name key - 1) (edits name other))
+    else
+    (if fits_in within other then nat_lt (edits name key) (edits name other - 1) else is_closer name key other)
 
 -- the nearest of these keys and one before them, the first of equals
 unfoldable pub nearest_among : Misplaced → Key → List Key → Key

@@ -7,7 +7,7 @@ ghost use Rattle.settings.specs.declared.keys.Key.TheVariants.{Floor};
 ghost use Rattle.settings.specs.Keys.{all_keys};
 ghost use Rattle.settings.specs.SettingsTable.{document_of};
 ghost use Rattle.settings.specs.Documents.{misplaced_in};
-ghost use Rattle.settings.specs.FaultWords.{document_words, edits, fault_words, fits_in, is_nearer, is_preferred};
+ghost use Rattle.settings.specs.FaultWords.{document_words, edits, fault_words, fits_in, is_nearer};
 ghost use Rattle.settings.specs.FaultWords.{key_words, lists_words, misplaced_text, misplaced_words, nearest_among};
 ghost use Rattle.settings.specs.FaultWords.{nearest_key, place_of, text_words, value_words};
 
@@ -36,21 +36,9 @@ fn fits_in(within: Option<Key>, key: Key) -> bool
     }
 }
 
-/// Whether a key is nearer than another to a name of as many edits: the one that may stand there is, and of those the
-/// one with the longer name, of which more is kept.
-fn is_preferred(within: Option<Key>, key: Key, other: Key) -> bool
-    ensures { result ≡ is_preferred within key other }
-{
-    let is_longer = other.name().len() < key.name().len();
-    match (fits_in(within, key), fits_in(within, other)) {
-        (true, false) => true,
-        (false, true) => false,
-        _ => is_longer,
-    }
-}
-
-/// Whether a key is nearer than another to a name that stands within a key: by fewer edits, and of as many by
-/// [`is_preferred`].
+/// Whether a key is nearer than another to a name that stands within a key. One that may stand there is nearer than one
+/// that may not, unless that takes two edits fewer; else the one with fewer edits is, and of as many the one with the
+/// longer name, of which more is kept.
 fn is_nearer(
     alloc: Global,
     within: Option<Key>,
@@ -61,10 +49,12 @@ fn is_nearer(
     ensures { IfOk result (λ nearer. nearer ≡ is_nearer (within, name.now) key other) }
 {
     let (one, two) = (edits(alloc, name, key)?, edits(alloc, name, other)?);
-    if one == two {
-        return Ok(is_preferred(within, key, other));
+    match (fits_in(within, key), fits_in(within, other)) {
+        (true, false) => Ok(one.saturating_sub(1) <= two),
+        (false, true) => Ok(one < two.saturating_sub(1)),
+        _ if one == two => Ok(other.name().len() < key.name().len()),
+        _ => Ok(one < two),
     }
-    Ok(one < two)
 }
 
 /// The nearest of all keys.
