@@ -13,17 +13,19 @@ import collections
 import http.client
 import pathlib
 import shutil
-import socket
 import subprocess
 import sys
 import tempfile
 import time
 
-sys.dont_write_bytecode = True  # the folders stay as they are
-sys.path.insert(0, str(pathlib.Path(__file__).resolve().parent.parent / "tools"))
+from lib.report import Report
+from lib.servers import HOST, answers_at, free_port, is_soon, running
+from lib.sources import TOP
+from lib.usage import parser_of
+
+sys.path.insert(0, str(pathlib.Path(TOP, "tools")))
 import server_lines
 
-HOST = "127.0.0.1"
 SECONDS = 10  # that a start, an answer or an end may take
 RATE, DEPTH = 10, 20  # requests a second, requests at once: a window of two seconds
 LOAD_SECONDS = 10
@@ -54,13 +56,6 @@ SINGLE = {0: policy_of(RATE, DEPTH)}
 TIERS = {tier: policy_of(tier + 1, 10 * (tier + 1)) for tier in range(4)}  # a window of ten seconds each
 
 
-def free_port():
-    """A port that nobody listens on."""
-    with socket.socket() as probe:
-        probe.bind((HOST, 0))
-        return probe.getsockname()[1]
-
-
 def with_condition(rule, tier):
     """A printed rule for the requests of a tier: those below its number."""
     return "%s %s{ path_beg /%d }" % (rule, "" if " if " in rule else "if ", tier)
@@ -80,8 +75,7 @@ def configuration(policies, port):
     """A configuration with the printed lines, those of the frontend in one that answers by itself."""
     backends = [line for line in server_lines.haproxy(policies)
                 if not line.startswith("#") and not line.lstrip().startswith("http-request")]
-    return CONFIGURATION.format(
-        host=HOST, port=port, backends="\n".join(backends), rules="\n".join(rules_of(policies)))
+    return CONFIGURATION.format(host=HOST, port=port, backends="\n".join(backends), rules="\n".join(rules_of(policies)))
 
 
 def is_taken(text, folder):
@@ -90,17 +84,6 @@ def is_taken(text, folder):
     path.write_text(text)
     ran = subprocess.run(["haproxy", "-c", "-f", path], capture_output=True, text=True, timeout=SECONDS)
     return ran.returncode == 0, (ran.stdout + ran.stderr).strip()
-
-
-def wait_for(port, child):
-    """Waits until somebody listens."""
-    end = time.monotonic() + SECONDS
-    while time.monotonic() < end and child.poll() is None:
-        with socket.socket() as probe:
-            if probe.connect_ex((HOST, port)) == 0:
-                return
-        time.sleep(0.05)
-    sys.exit("against_haproxy: haproxy doesn't start")
 
 
 def let_in(connection, count, pause=0.0, target="/"):
@@ -142,45 +125,30 @@ def before_haproxy(policies, folder, measure):
     port = free_port()
     path = pathlib.Path(folder, "run.cfg")
     path.write_text(configuration(policies, port))
-    with subprocess.Popen(["haproxy", "-db", "-f", path], stderr=subprocess.DEVNULL) as child:
-        try:
-            wait_for(port, child)
-            return measure(port)
-        finally:
-            child.terminate()
-
-
-class Report:
-    """The comparisons, each on a line."""
-
-    def __init__(self):
-        self.failed = 0
-
-    def see(self, name, good, got):
-        self.failed += not good
-        print("%-60s %s%s" % (name, got, "" if good else "  WRONG"))
+    with running(["haproxy", "-db", "-f", path], stderr=subprocess.DEVNULL) as child:
+        if not is_soon(lambda: answers_at(port), SECONDS, child):
+            sys.exit("against_haproxy: haproxy doesn't start")
+        return measure(port)
 
 
 def main():
-    if len(sys.argv) != 1:
-        sys.exit(__doc__)
+    parser_of(__doc__, runs_program=False).parse_args()
     if shutil.which("haproxy") is None:
         sys.exit("against_haproxy: haproxy isn't there")
-    report = Report()
+    report = Report(width=60)
     with tempfile.TemporaryDirectory() as folder:
         for name, policies in (("one policy", SINGLE), ("four tiers", TIERS)):
             good, said = is_taken(configuration(policies, free_port()), folder)
-            report.see("haproxy -c takes the lines of %s" % name, good, "yes" if good else said)
+            report.see("haproxy -c takes the lines of %s" % name, good, said, "yes")
         bursts, lasting, seconds = before_haproxy(SINGLE, folder, counts)
         by_tier = before_haproxy(TIERS, folder, counts_by_tier)
     for number, count in enumerate(bursts, 1):
-        report.see("burst %d of %d, let in (the depth)" % (number, 3 * DEPTH), count == DEPTH, count)
+        report.see("burst %d of %d, let in (the depth)" % (number, 3 * DEPTH), count == DEPTH, count, count)
     least, most = RATE * seconds / 2, RATE * seconds + DEPTH
-    report.see("lasting load, let in (%.0f to %.0f)" % (least, most), least <= lasting <= most, lasting)
+    report.see("lasting load, let in (%.0f to %.0f)" % (least, most), least <= lasting <= most, lasting, lasting)
     for (tier, policy), count in zip(TIERS.items(), by_tier):
-        report.see("burst of 60 of tier %d, let in (its depth)" % tier, count == policy.depth, count)
-    print("%d failed" % report.failed)
-    return int(report.failed != 0)
+        report.see("burst of 60 of tier %d, let in (its depth)" % tier, count == policy.depth, count, count)
+    return report.end("{wrong} failed")
 
 
 if __name__ == "__main__":

@@ -1,7 +1,7 @@
 #!/usr/bin/python3
 """Asks nginx and Haboob the same and compares their answers; reads Haboob's replies with h11, a client that isn't ours.
 
-    checks/against_nginx.py [--requests N] [--seed S] PROGRAM
+    checks/against_nginx.py PROGRAM [--requests N] [--seed S]
 
 nginx serves a folder of odd names on a free port of this machine. It is sent about N requests (3,000 without it) in
 random pieces: each oddity of odd_requests.py once, and then good and odd ones as the seed gives them. tcpdump records
@@ -16,7 +16,6 @@ is printed with both heads, and makes the status 1. After an answer that closes 
 compared there. It needs nginx, tcpdump with the right to record, and three libraries; where one isn't there, it says so
 and ends with status 0. It takes about a minute.
 """
-import argparse
 import collections
 import contextlib
 import importlib.util
@@ -30,8 +29,11 @@ import sys
 import tempfile
 import time
 
-# The folder stays as it is.
-sys.dont_write_bytecode = True
+from lib.run import contents, options, put
+from lib.servers import HOST as ADDRESS, answers_at, free_port, is_soon, running
+from lib.sources import TOP
+from lib.texts import OPEN as OPEN_POLICY
+from lib.usage import parser_of
 import compare_replays
 import departures
 import odd_requests
@@ -47,9 +49,8 @@ PYTHON = "/usr/bin/python3"  # Debian's, for which the libraries are
 PROGRAMS = {"nginx": "nginx-light", "tcpdump": "tcpdump"}  # each with its package
 LIBRARIES = {"h11": "python3-h11", "dpkt": "python3-dpkt", "tqdm": "python3-tqdm"}
 SEARCHED = os.environ.get("PATH", "") + os.pathsep + "/usr/sbin:/sbin"
-TOOL = os.path.join(os.path.dirname(os.path.dirname(os.path.abspath(__file__))), "tools", "capture_from_pcap.py")
+TOOL = os.path.join(TOP, "tools", "capture_from_pcap.py")
 
-ADDRESS = "127.0.0.1"
 REQUESTS = 3000
 OPEN = 12  # connections at a time
 ROOM = "65536"  # KiB for packets that tcpdump hasn't taken yet: enough for most of them
@@ -86,7 +87,7 @@ http {
 """
 
 # All requests are admitted.
-SETTINGS = b"[policy]\ndepth = 1000000\nrate = 1000000000\nrate_min = 1000000000\nrate_max = 1000000000\n"
+SETTINGS = OPEN_POLICY + b"rate_min = 1000000000\n"
 
 
 class Fault(Exception):
@@ -166,52 +167,9 @@ class Client:
         return self.reset or (over and not self.pieces)
 
 
-@contextlib.contextmanager
-def running(words, **options):
-    """A process that is ended when its block is left, in whatever way."""
-    process = subprocess.Popen(words, stdin=subprocess.DEVNULL, **options)
-    try:
-        yield process
-    finally:
-        process.terminate()
-        try:
-            process.wait(PATIENCE)
-        except subprocess.TimeoutExpired:
-            process.kill()
-            process.wait()
-
-
 def path_of(program):
     """Where a program stands; None where it isn't there."""
     return shutil.which(program, path=SEARCHED)
-
-
-def free_port():
-    """A port that nobody listens on."""
-    with socket.create_server((ADDRESS, 0)) as listener:
-        return listener.getsockname()[1]
-
-
-def is_ready_soon(process, is_ready):
-    """Waits until a process is ready; whether it is."""
-    limit = time.monotonic() + PATIENCE
-    while not is_ready():
-        if process.poll() is not None or time.monotonic() > limit:
-            return False
-        time.sleep(0.02)
-    return True
-
-
-def answers_at(port):
-    """Whether somebody listens on a port."""
-    with socket.socket() as probe:
-        return probe.connect_ex((ADDRESS, port)) == 0
-
-
-def contents(path):
-    """The bytes of a file."""
-    with open(path, "rb") as file:
-        return file.read()
 
 
 def start_nginx(stack, folder, port):
@@ -221,7 +179,7 @@ def start_nginx(stack, folder, port):
         file.write(CONFIGURATION % (ADDRESS, port))
     words = [path_of("nginx"), "-p", folder, "-c", configuration, "-e", "error.log"]
     process = stack.enter_context(running(words, stdout=subprocess.DEVNULL, stderr=subprocess.DEVNULL))
-    if not is_ready_soon(process, lambda: answers_at(port)):
+    if not is_soon(lambda: answers_at(port), PATIENCE, process):
         raise Fault("nginx doesn't start")
 
 
@@ -232,7 +190,7 @@ def record(stack, folder, port):
     told = os.path.join(folder, "tcpdump.log")
     with open(path, "wb") as packets, open(told, "wb") as log:
         process = stack.enter_context(running(words, stdout=packets, stderr=log))
-    if not is_ready_soon(process, lambda: b"listening on" in contents(told)):
+    if not is_soon(lambda: b"listening on" in contents(told), PATIENCE, process):
         raise Skipped("tcpdump, with the right to record")
     return process, path
 
@@ -271,11 +229,10 @@ def run(words):
 def replay(program, folder, packets, port, clients):
     """Haboob's replies on each connection, in their order."""
     names = {name: os.path.join(folder, name) for name in ("snapshot", "capture", "replies", "settings")}
-    with open(names["settings"], "wb") as file:
-        file.write(SETTINGS)
+    put(folder, {"settings": SETTINGS})
     run([sys.executable, TOOL, "--port", str(port), "--output", names["capture"], packets])
     run([program, "snapshot", "--folder", os.path.join(folder, "folder"), "--output", names["snapshot"]])
-    run([program, "replay"] + [word for name, path in names.items() for word in ("--" + name, path)])
+    run([program, "replay", *options(**names)])
     check_capture(contents(names["capture"]), clients)
     replies = [[] for _ in clients]
     for _, conn, reply in read_replies.records_of(contents(names["replies"])):
@@ -464,12 +421,11 @@ def check(program, count, chance, folder, stack):
 
 
 def main():
-    parser = argparse.ArgumentParser(description=__doc__, formatter_class=argparse.RawDescriptionHelpFormatter)
-    parser.add_argument("program")
+    parser = parser_of(__doc__)
     parser.add_argument("--requests", type=int, default=REQUESTS, metavar="N", help="%d without it" % REQUESTS)
     parser.add_argument("--seed", type=int, metavar="S", help="gives the same requests again; drawn without it")
-    options = parser.parse_args()
-    seed = random.SystemRandom().randrange(10**9) if options.seed is None else options.seed
+    words = parser.parse_args()
+    seed = random.SystemRandom().randrange(10**9) if words.seed is None else words.seed
     if h11 is None and os.path.exists(PYTHON) and os.path.realpath(PYTHON) != os.path.realpath(sys.executable):
         os.execv(PYTHON, [PYTHON] + sys.argv)
     print("seed %d" % seed, flush=True)
@@ -478,14 +434,14 @@ def main():
     try:
         need_all()
         with tempfile.TemporaryDirectory() as folder, contextlib.ExitStack() as stack:
-            comparison = check(os.path.abspath(options.program), options.requests, random.Random(seed), folder, stack)
+            comparison = check(words.program, words.requests, random.Random(seed), folder, stack)
     except Skipped as need:
         print("against_nginx: skipped, as it needs %s" % need)
         return 0
     except (Fault, OSError, read_replies.NoRepliesText) as fault:
         print("against_nginx: %s" % fault, file=sys.stderr)
         return 2
-    comparison.tell(options.requests >= REQUESTS)
+    comparison.tell(words.requests >= REQUESTS)
     return int(comparison.wrong > 0)
 
 

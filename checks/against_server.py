@@ -1,7 +1,7 @@
 #!/usr/bin/env python3
 """Goes the whole round with a real server: records it, fits costs to it, replays, and compares what comes out.
 
-    checks/against_server.py [--seconds N] [--keep FOLDER] PROGRAM
+    checks/against_server.py PROGRAM [--seconds N] [--keep FOLDER]
 
 nginx, with the lines that tools/sweep.py prints for it, stands before a backend whose costs are known (so much for a
 file, for each KiB of it, for an error), first of one process and then of four; and then of four that also answer a slow
@@ -18,7 +18,6 @@ recordings:
 Prints what was measured and what was found, and then how many comparisons failed. Exits with 1 where one did. It needs
 root, nginx, tcpdump and the libraries of the tools, and takes about three minutes.
 """
-import argparse
 import asyncio
 import collections
 import contextlib
@@ -36,8 +35,12 @@ import tempfile
 import time
 import tomllib
 
-TOOLS = pathlib.Path(__file__).resolve().parent.parent / "tools"
-sys.dont_write_bytecode = True  # the folders stay as they are
+from lib.report import Report
+from lib.servers import HOST, answers_at, free_port, is_soon, running
+from lib.sources import TOP
+from lib.usage import parser_of
+
+TOOLS = pathlib.Path(TOP, "tools")
 sys.path.insert(0, str(TOOLS))
 import response_delays
 import server_lines
@@ -45,7 +48,6 @@ import settings_documents
 
 PYTHON = "/usr/bin/python3"
 NEEDED = ("nginx", "tcpdump", PYTHON)
-HOST = "127.0.0.1"
 FILE, KIB, ERROR = 0.010, 0.00012, 0.004  # seconds that the backend works on a file, a KiB of it, an error
 SIZES = {"small.txt": 2_000, "page.html": 20_000, "picture.png": 100_000}
 API = {"api/item": 0.025, "api/search": 0.060}  # seconds that it works on an answer
@@ -135,37 +137,10 @@ def begin_backend(processes):
     return children, listener.getsockname()[1]
 
 
-def free_port():
-    """A port that nobody listens on."""
-    with socket.create_server((HOST, 0)) as listener:
-        return listener.getsockname()[1]
-
-
 def wait_until(condition, what):
     """Waits until something holds."""
-    end = time.monotonic() + LONGEST
-    while not condition():
-        if time.monotonic() > end:
-            sys.exit("%s: not within %d seconds" % (what, LONGEST))
-        time.sleep(0.02)
-
-
-def answers_at(port):
-    """Whether somebody listens on a port."""
-    with contextlib.suppress(OSError), socket.create_connection((HOST, port), 1):
-        return True
-    return False
-
-
-@contextlib.contextmanager
-def running(words, end_signal, **options):
-    """A process that is ended afterwards."""
-    process = subprocess.Popen(list(map(str, words)), stdin=subprocess.DEVNULL, **options)
-    try:
-        yield process
-    finally:
-        process.send_signal(end_signal)
-        process.wait(LONGEST)
+    if not is_soon(condition, LONGEST):
+        sys.exit("%s: not within %d seconds" % (what, LONGEST))
 
 
 def limits_of(a_round):
@@ -264,25 +239,18 @@ def run(*words):
     return ran.stdout
 
 
-class Comparisons:
+class Comparisons(Report):
     """Compares figures, and counts those that differ too much."""
-
-    def __init__(self):
-        self.failed = self.made = 0
 
     def near(self, what, found, real, percent, slack=0):
         """Compares a figure with the one that it should be."""
+        numbers = "%10.0f for %10.0f" % (found, real)
         is_near = abs(found - real) <= percent / 100 * abs(real) + slack
-        self.made += 1
-        self.failed += not is_near
-        print("  %-52s %10.0f for %10.0f%s" %
-              (what, found, real, "" if is_near else "   FAILED (%g%%)" % percent), flush=True)
+        self.see("  " + what, is_near, "%s   FAILED (%g%%)" % (numbers, percent), numbers)
 
     def true(self, what, holds):
         """Notes whether something holds."""
-        self.made += 1
-        self.failed += not holds
-        print("  %-52s %s" % (what, "yes" if holds else "NO   FAILED"), flush=True)
+        self.see("  " + what, holds, "NO   FAILED", "yes")
 
 
 def decisions_of_log(folder):
@@ -399,24 +367,22 @@ def compare_times(comparisons, name, real, found, targets):
 
 
 def main():
-    parser = argparse.ArgumentParser(description=__doc__, formatter_class=argparse.RawDescriptionHelpFormatter)
-    parser.add_argument("program")
+    parser = parser_of(__doc__)
     parser.add_argument("--seconds", type=int, default=25, metavar="N", help="how long each round is recorded")
     parser.add_argument("--keep", metavar="FOLDER", help="keep what was recorded in this new folder")
     options = parser.parse_args()
     missing = [name for name in NEEDED if not shutil.which(name)]
     if missing or os.geteuid():
         sys.exit("needs %s" % (", ".join(missing) or "root, as tcpdump does"))
-    comparisons = Comparisons()
+    comparisons = Comparisons(width=54)
     for a_round in ROUNDS:
         with tempfile.TemporaryDirectory() as temporary:
             folder = pathlib.Path(temporary)
             port = record(folder, a_round, options.seconds)
             if options.keep:
                 shutil.copytree(folder, pathlib.Path(options.keep, a_round.name.replace(" ", "_")))
-            compare_round(folder, os.path.abspath(options.program), a_round, port, comparisons, options.seconds)
-    print("%d comparisons, %d failed" % (comparisons.made, comparisons.failed))
-    return int(comparisons.failed > 0)
+            compare_round(folder, options.program, a_round, port, comparisons, options.seconds)
+    return comparisons.end("{runs} comparisons, {wrong} failed")
 
 
 if __name__ == "__main__":

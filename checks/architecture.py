@@ -11,22 +11,19 @@ import os
 import re
 import sys
 
-TOP = os.path.dirname(os.path.dirname(os.path.abspath(__file__)))
+from lib.report import end
+from lib.sources import TOP, read
+from lib.usage import parser_of
+import mutants
+
 ROW = re.compile(r"^\| `(\w+)` \| [^|]* \|([^|]*)\|", re.MULTILINE)
 FILE = re.compile(r"`((?:[\w*-]+/)*[\w*-]+\.(?:rt|antt|py|md))`")
 CRATE = re.compile(r"`crates/(\w+)")
 
 
-def read(path):
-    with open(os.path.join(TOP, path), encoding="utf-8") as file:
-        return file.read()
-
-
 def crates():
     """The crates of crates.txt that hold no tests, each with the own crates that it stands on."""
-    lines = [line for line in read("crates.txt").split("\n") if line and not line.startswith("#")]
-    stands = {line.split()[0].rstrip(":"): line.split(":")[1].split() for line in lines}
-    own = {name: [other for other in others if other in stands] for name, others in stands.items()}
+    _, own = mutants.crates()
     return {name: others for name, others in own.items() if not name.endswith("_tests") and name != "test_support"}
 
 
@@ -55,10 +52,10 @@ def absent(page):
 
 
 def main():
+    parser_of(__doc__, runs_program=False).parse_args()
     page = read("docs/ARCHITECTURE.md")
     wrong = list(differences(page)) + list(absent(page))
-    print("\n".join(wrong + ["%d crates, %d wrong" % (len(crates()), len(wrong))]))
-    return int(bool(wrong))
+    return end(wrong, "%d crates" % len(crates()))
 
 
 if __name__ == "__main__":

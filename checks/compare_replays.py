@@ -28,18 +28,17 @@ import os
 import random
 import re
 import string
-import subprocess
 import sys
-import tempfile
 import urllib.parse
 
-# The folder stays as it is.
-sys.dont_write_bytecode = True
+from lib.report import Report
+from lib.run import options, run_over, without_words
+from lib.texts import (OPEN, REQUEST, SNAPSHOT, TIME as START, recording_parts, recording_text, snapshot_parts,
+                       snapshot_text)
+from lib.usage import parser_of, with_seeds
 import reference
-from program_parts import without_words
 
 SECONDS = 120
-HANGS = -1000
 ENGINES = [["--engine", "plain"], []]
 SPEEDS = (100, 100, 200, 100, 101, 10_000, 100, 333)  # percent, by turns
 OLD_REPLIES = b"old replies\n"
@@ -50,7 +49,6 @@ PARTS = {
     "settings": ("status", "line", "document", "text", "words"),
     "upgrade": ("status", "line", "output", "standard output"),
 }
-START = 784111777
 FAULTS = ("", "", "", "", "", "snapshot", "capture", "settings")
 # One seed in so many gives a long replay; half of their captures have a fault.
 LONG_TURN = 12
@@ -64,8 +62,6 @@ END = None
 
 ONE, TRAFFIC = reference.ONE, reference.TRAFFIC
 FILES = [(b"a.txt", START, b"hi\n")]
-SNAPSHOT = b"haboob-snapshot 1\nfile 784111777 5 3\na.txt\nhi\n\nend 1\n"
-REQUEST = b"GET /a.txt HTTP/1.1\r\nHost: a\r\n\r\n"
 
 # A request takes 201 ticks and comes each 100: the rate moves up and down, and many are turned away.
 TIGHT = b"""[policy]
@@ -83,30 +79,8 @@ depth = 3
 
 FOLDERS = ["a", "b", "docs", "a b", "\u00e9", "%41", "a!b", "A", "~x", "..."]
 LAST_PARTS = [
-    "index.html",
-    "index.html",
-    "a.txt",
-    "b.HTM",
-    "c.css",
-    "d.js",
-    "e.json",
-    "f.svg",
-    "g.png",
-    "h.jpg",
-    "i.jPeG",
-    "j.gif",
-    "k.",
-    ".txt",
-    "l",
-    "m.tar.gz",
-    "a",
-    "docs",
-    "n\nm.txt",
-    "o?.txt",
-    "p#",
-    "q%2f.css",
-    "\x01",
-    "index.html.",
+    "index.html", "index.html", "a.txt", "b.HTM", "c.css", "d.js", "e.json", "f.svg", "g.png", "h.jpg", "i.jPeG",
+    "j.gif", "k.", ".txt", "l", "m.tar.gz", "a", "docs", "n\nm.txt", "o?.txt", "p#", "q%2f.css", "\x01", "index.html.",
     "\U0001f42a.html",
 ]
 # What targets of many segments begin with, again and again.
@@ -129,52 +103,11 @@ METHODS = (
 )
 VERSIONS = [b"HTTP/1.1"] * 100 + [b"HTTP/1.0"] * 20 + [b"HTTP/1.2", b"HTTP/2.0", b"http/1.1", b"HTTP/1.1 ", b""]
 ODD_TARGETS = [
-    b"/",
-    b"*",
-    b"//",
-    b"/.",
-    b"/..",
-    b"/../x",
-    b"/a/../../b",
-    b"/a/%2e%2E/b",
-    b"/%zz",
-    b"/%",
-    b"/%4",
-    b"/%c3%28",
-    b"/%c3%28/%zz",
-    b"/%00",
-    b"/%00/../..",
-    b"/../%00",
-    b"/a%2fa.txt",
-    b"http://h",
-    b"HTTP://h/a",
-    b"http:///a",
-    b"http://?",
-    b"http://h?x/y",
-    b"http://h%zz/a.txt",
-    b"https://h/a",
-    b"http:/a",
-    b"/a#b",
-    b"/a?b#c",
-    b"/a?%zz",
-    b"/\xc3\xa9",
-    b"/\xff",
-    b"a",
-    b"=1+1",
-    b"@a;b",
-    b"-1,+1",
-    b"",
-    b"/a b",
-    b"/index.html",
-    b"/%69ndex.html",
-    b"/docs/",
-    b"/docs",
-    b"/docs/.",
-    b"/%e2%82",
-    b"/%ed%a0%80",
-    b"/\x7f",
-    b"?",
-    b"/?/..",
+    b"/", b"*", b"//", b"/.", b"/..", b"/../x", b"/a/../../b", b"/a/%2e%2E/b", b"/%zz", b"/%", b"/%4", b"/%c3%28",
+    b"/%c3%28/%zz", b"/%00", b"/%00/../..", b"/../%00", b"/a%2fa.txt", b"http://h", b"HTTP://h/a", b"http:///a",
+    b"http://?", b"http://h?x/y", b"http://h%zz/a.txt", b"https://h/a", b"http:/a", b"/a#b", b"/a?b#c", b"/a?%zz",
+    b"/\xc3\xa9", b"/\xff", b"a", b"=1+1", b"@a;b", b"-1,+1", b"", b"/a b", b"/index.html", b"/%69ndex.html", b"/docs/",
+    b"/docs", b"/docs/.", b"/%e2%82", b"/%ed%a0%80", b"/\x7f", b"?", b"/?/..",
 ]
 HOST_LINES = [[b"Host: a"]] * 150 + [
     [],
@@ -211,130 +144,40 @@ LENGTH_LINES = [
     [b"Content-Length: " + b"9" * 5000],
 ]
 ODD_LINES = [
-    b"X: \xff\x80\t!",
-    b"X : a",
-    b" folded",
-    b"\tfolded: a",
-    b"X: a\rb",
-    b"X: a\r",
-    b": a",
-    b"X",
-    b"X: \x00",
-    b"X: \x7f",
-    b"X:\x0b",
-    b"X(Y: a",
-    b"!#$%&'*+-.^_`|~: ok",
-    b"Range: bytes=0-1",
-    b"Expect: 100-continue",
-    b"if-none-match:",
-    b"Transfer-Encoding: chunked",
-    b"transfer-encoding:",
-    b"Content-Type: x",
-    b"\xe9: a",
-    b"X:: a",
-    b"If-Modified-Since: x",
-    b"If-Modified-Since: Wednesday, 06-Nov-69 08:49:37 GMT",
+    b"X: \xff\x80\t!", b"X : a", b" folded", b"\tfolded: a", b"X: a\rb", b"X: a\r", b": a", b"X", b"X: \x00",
+    b"X: \x7f", b"X:\x0b", b"X(Y: a", b"!#$%&'*+-.^_`|~: ok", b"Range: bytes=0-1", b"Expect: 100-continue",
+    b"if-none-match:", b"Transfer-Encoding: chunked", b"transfer-encoding:", b"Content-Type: x", b"\xe9: a", b"X:: a",
+    b"If-Modified-Since: x", b"If-Modified-Since: Wednesday, 06-Nov-69 08:49:37 GMT",
     b"If-Modified-Since: Friday, 06-Nov-70 08:49:37 GMT",
 ]
 EMPTY_LINES = [b""] * 20 + [b"\r\n", b"\n", b"\r\n\n", b"\n\n\r\n", b"\r", b" "]
 ODD_NUMBERS = [
-    b"0",
-    b"00",
-    b"01",
-    b"1",
-    b"-1",
-    b"+1",
-    b"",
-    b"x",
-    b"4095",
-    b"4096",
-    b"65536",
-    b"65537",
-    b"1025",
-    b"16777217",
-    b"253402300800",
-    b"4102444801",
-    b"1000000000000000",
-    b"1000000000000001",
-    b"18446744073709551616",
-    b"9" * 40,
-    b"9" * 70,
-    b"1 1",
-    b"1 ",
-    b" 1",
-    b"1\r",
+    b"0", b"00", b"01", b"1", b"-1", b"+1", b"", b"x", b"4095", b"4096", b"65536", b"65537", b"1025", b"16777217",
+    b"253402300800", b"4102444801", b"1000000000000000", b"1000000000000001", b"18446744073709551616", b"9" * 40,
+    b"9" * 70, b"1 1", b"1 ", b" 1", b"1\r",
 ]
 ODD_VALUES = [
-    "true",
-    "1.0",
-    '"1"',
-    "[]",
-    "[1]",
-    "[[1]]",
-    "[true]",
-    "{}",
-    "{x = 1}",
-    "1979-05-27",
-    "-1",
-    "0",
-    "1",
-    "2",
-    "01",
-    "1__0",
-    "0x7fffffffffffffff",
-    "9223372036854775807",
-    "9223372036854775808",
-    "-9223372036854775808",
-    "-9223372036854775809",
-    "",
-    "[1, 2, 3, 4]",
-    "[0, 1, 3]",
-    "[1, 2, 2]",
-    "[16, 17, 1]",
-    "[4096, 4097]",
-    "[1, 9223372036854775807, 1]",
-    "[-1, 1, 3]",
+    "true", "1.0", '"1"', "[]", "[1]", "[[1]]", "[true]", "{}", "{x = 1}", "1979-05-27", "-1", "0", "1", "2", "01",
+    "1__0", "0x7fffffffffffffff", "9223372036854775807", "9223372036854775808", "-9223372036854775808",
+    "-9223372036854775809", "", "[1, 2, 3, 4]", "[0, 1, 3]", "[1, 2, 2]", "[16, 17, 1]", "[4096, 4097]",
+    "[1, 9223372036854775807, 1]", "[-1, 1, 3]",
 ]
-ODD_DOCUMENTS = [
-    "x = 1\n",
-    "[tier9]\n",
-    "policy = 1\n",
-    "[[policy]]\ndepth = 1\n",
-    "[policy.depth]\n",
-    "[policy]\ndepth.x = 1\n",
-    "floor = []\n",
-    "[floor\n",
-    "[policy]\ndepth = 1\ndepth = 1\n",
-    '"policy.depth" = 1\n',
-    "[floor]\nfront_cuts = [{x = 1}]\n",
-    "\u00e9 = 1\n",
-    "[costs]\nfile = 1 kib = 2\n",
-    "route = 1\n",
-    "route = []\n",
-    '[route]\nprefix = "/"\ncost = 1\n',
-    "[[route]]\n",
-    '[[route]]\nprefix = "/"\n',
-    "[[route]]\ncost = 1\n",
-    "[[route]]\nprefix = 1\ncost = 1\n",
-    '[[route]]\nprefix = ""\ncost = 1\n',
-    '[[route]]\nprefix = "a"\ncost = 1\n',
-    '[[route]]\nprefix = "//"\ncost = 1\n',
-    '[[route]]\nprefix = "/a//b"\ncost = 1\n',
-    '[[route]]\nprefix = "/a/."\ncost = 1\n',
-    '[[route]]\nprefix = "/../a/"\ncost = 1\n',
-    '[[route]]\nprefix = "/\\"\\\\\\u0001\\u007f\\u0000"\ncost = 1\n',
-    '[[route]]\nprefix = "/"\ncost = 0\n',
-    '[[route]]\nprefix = "/"\ncost = 1_000_000_001\n',
-    '[[route]]\nprefix = "/"\ncost = 1\nkib = -1\n',
-    '[[route]]\nprefix = "/"\ncost = 1\nkib = 1.0\n',
-    '[[route]]\nprefix = "/"\ncost = 1\ndelay = 1_000_000_001\n',
-    '[[route]]\nprefix = "/"\ncost = 1\nrate = 1\n',
-    'route = [{prefix = "/", cost = 1}, 2]\n',
-    'route = [[{prefix = "/", cost = 1}]]\n',
-    '[[route]]\nprefix = "/"\ncost = 1\n' * 64,
-    '[[route]]\nprefix = "/"\ncost = 1\n' * 65,
-    '[[route]]\nprefix = "/"\ncost = 0\n' * 65,
-]
+ODD_DOCUMENTS = ["x = 1\n", "[tier9]\n", "policy = 1\n", "[[policy]]\ndepth = 1\n", "[policy.depth]\n",
+                 "[policy]\ndepth.x = 1\n", "floor = []\n", "[floor\n", "[policy]\ndepth = 1\ndepth = 1\n",
+                 '"policy.depth" = 1\n', "[floor]\nfront_cuts = [{x = 1}]\n", "\u00e9 = 1\n",
+                 "[costs]\nfile = 1 kib = 2\n", "route = 1\n", "route = []\n", '[route]\nprefix = "/"\ncost = 1\n',
+                 "[[route]]\n", '[[route]]\nprefix = "/"\n', "[[route]]\ncost = 1\n",
+                 "[[route]]\nprefix = 1\ncost = 1\n", '[[route]]\nprefix = ""\ncost = 1\n',
+                 '[[route]]\nprefix = "a"\ncost = 1\n', '[[route]]\nprefix = "//"\ncost = 1\n',
+                 '[[route]]\nprefix = "/a//b"\ncost = 1\n', '[[route]]\nprefix = "/a/."\ncost = 1\n',
+                 '[[route]]\nprefix = "/../a/"\ncost = 1\n',
+                 '[[route]]\nprefix = "/\\"\\\\\\u0001\\u007f\\u0000"\ncost = 1\n',
+                 '[[route]]\nprefix = "/"\ncost = 0\n', '[[route]]\nprefix = "/"\ncost = 1_000_000_001\n',
+                 '[[route]]\nprefix = "/"\ncost = 1\nkib = -1\n', '[[route]]\nprefix = "/"\ncost = 1\nkib = 1.0\n',
+                 '[[route]]\nprefix = "/"\ncost = 1\ndelay = 1_000_000_001\n',
+                 '[[route]]\nprefix = "/"\ncost = 1\nrate = 1\n', 'route = [{prefix = "/", cost = 1}, 2]\n',
+                 'route = [[{prefix = "/", cost = 1}]]\n', '[[route]]\nprefix = "/"\ncost = 1\n' * 64,
+                 '[[route]]\nprefix = "/"\ncost = 1\n' * 65, '[[route]]\nprefix = "/"\ncost = 0\n' * 65]
 
 
 def random_files(chance, start):
@@ -346,14 +189,8 @@ def random_files(chance, start):
     names = sorted(name for name in names if not any(other.startswith(name + b"/") for other in names))
     times = [start + shift for shift in (-3600, -2, -1, 0, 0, 1, 2)] + [0, reference.TIME_LIMIT]
     sizes = (1023, 1024, 1025, 5000)
-    bodies = [
-        b"",
-        b"hi\n",
-        b"\r\n\r\n",
-        b"\nend 1\n",
-        b"x" * chance.choice(sizes),
-        chance.randbytes(chance.randrange(300)),
-    ]
+    bodies = [b"", b"hi\n", b"\r\n\r\n", b"\nend 1\n", b"x" * chance.choice(sizes),
+              chance.randbytes(chance.randrange(300))]
     return [(name, max(0, chance.choice(times)), chance.choice(bodies)) for name in names]
 
 
@@ -395,12 +232,8 @@ def random_date(chance, seconds):
     date = datetime.datetime(1970, 1, 1) + datetime.timedelta(seconds=seconds)
     day, month = reference.DAYS[date.weekday()], reference.MONTHS[date.month - 1]
     text = chance.choice(
-        (
-            f"{day[:3]}, {date:%d} {month} {date:%Y %H:%M:%S} GMT",
-            f"{day}, {date:%d}-{month}-{date:%y %H:%M:%S} GMT",
-            f"{day[:3]} {month} {date.day:2} {date:%H:%M:%S %Y}",
-            f"{day[:3]} {month} {date:%d %H:%M:%S %Y}",
-        )
+        (f"{day[:3]}, {date:%d} {month} {date:%Y %H:%M:%S} GMT", f"{day}, {date:%d}-{month}-{date:%y %H:%M:%S} GMT",
+         f"{day[:3]} {month} {date.day:2} {date:%H:%M:%S %Y}", f"{day[:3]} {month} {date:%d %H:%M:%S %Y}")
     ).encode()
     return changed(chance, text) if chance.random() < 0.2 else text
 
@@ -615,19 +448,8 @@ def odd_files(chance, files):
     """The files with one of them at another place or with another name."""
     place = chance.randrange(len(files))
     name, time, body = files[place]
-    names = (
-        b"/" + name,
-        name + b"/",
-        b"a//b",
-        b"../x",
-        b"\xff" + name,
-        name + b"\0",
-        b"x" * 1025,
-        b"",
-        name[:-1],
-        name + b"/x/y",
-        b"\n",
-    )
+    names = (b"/" + name, name + b"/", b"a//b", b"../x", b"\xff" + name, name + b"\0", b"x" * 1025, b"", name[:-1],
+             name + b"/x/y", b"\n")
     inside, odd = (name + b"/x", time, body), (chance.choice(names), time, body)
     instead = chance.choice(
         (
@@ -642,45 +464,32 @@ def odd_files(chance, files):
     return files[:place] + instead + files[place + 1 :]
 
 
-def snapshot_text(chance, files, faulty):
+def in_order(files):
+    """The files as a snapshot's text takes them: the time comes last."""
+    return [(name, body, time) for name, time, body in files]
+
+
+def drawn_snapshot(chance, files, faulty):
     """The text of a snapshot."""
     if faulty and files and chance.random() < 0.4:
         files, faulty = odd_files(chance, files), False
-    parts = [b"haboob-snapshot 1\n", b""]
-    for name, time, body in files:
-        parts += [b"file %d %d %d\n" % (time, len(name), len(body)), name, b"\n", body, b"\n", b""]
-    return join(chance, parts + [b"end %d\n" % len(files)], faulty)
+    return join(chance, snapshot_parts(in_order(files)), faulty)
 
 
-def record_parts(record):
-    """The line of a record, and what follows it."""
-    tick, conn, *rest = record
-    if tick == "tier":
-        return [b"tier %d %d\n" % (conn, rest[0]), b""]
-    if rest:
-        return [b"piece %d %d %d\n" % (tick, conn, len(rest[0])), rest[0] + b"\n"]
-    return [b"end %d %d\n" % (tick, conn), b""]
-
-
-def capture_text(chance, form, start, records, faulty):
+def drawn_capture(chance, form, start, records, faulty):
     """The text of a recording; in a faulty one a record may stand where it doesn't belong."""
-    parts = [b"%s%d\n" % (form.begin, start), b""]
     if faulty and records and chance.random() < 0.4:
         records, faulty = records[:], False
         place = chance.randrange(len(records))
         tick, conn, *_ = chance.choice([record for record in records if record[0] != "tier"])
         odd = [(tick, conn), (tick, conn, REQUEST), ("tier", conn, chance.randrange(6)), ("tier", conn + 1, 3)]
         records.insert(place + 1, chance.choice(odd))
-    for record in records:
-        parts += record_parts(record)
-    return join(chance, parts + [b"stop %d\n" % len(records)], faulty)
+    return join(chance, recording_parts(records, form.begin, start), faulty)
 
 
 def random_rates(chance):
     """The three rates, in their order."""
-    least, rate, most = sorted(
-        chance.choice((1, 1000, 10**6, 3 * 10**6, 5 * 10**6, 10**7, 10**9)) for _ in range(3)
-    )
+    least, rate, most = sorted(chance.choice((1, 1000, 10**6, 3 * 10**6, 5 * 10**6, 10**7, 10**9)) for _ in range(3))
     return {"rate": rate, "rate_min": least, "rate_max": most}
 
 
@@ -834,12 +643,9 @@ def random_replay(seed, faults=FAULTS):
     times = [start, start + 1, chance.randrange(reference.START_LIMIT)] + [time for _, time, _ in files]
     form = chance.choice(reference.FORMATS)
     records = random_records(chance, [name for name, _, _ in files], times, form)
-    snapshot = snapshot_text(chance, files, fault == "snapshot")
-    return (
-        snapshot,
-        capture_text(chance, form, start, records, fault == "capture"),
-        random_settings(chance, fault == "settings"),
-    )
+    snapshot = drawn_snapshot(chance, files, fault == "snapshot")
+    return (snapshot, drawn_capture(chance, form, start, records, fault == "capture"),
+            random_settings(chance, fault == "settings"))
 
 
 def many_segments(chance, name):
@@ -920,8 +726,8 @@ def heavy_replay(seed, faults=HEAVY_FAULTS):
         waiting = {conn: in_lives(chance, pieces) for conn, pieces in waiting.items()}
     records = mixed(chance, waiting)
     records = with_tiers(chance, records) if form.tiers else records
-    capture = capture_text(chance, form, START, records, chance.choice(faults) == "capture")
-    return snapshot_text(chance, files, False), capture, heavy_settings(chance)
+    capture = drawn_capture(chance, form, START, records, chance.choice(faults) == "capture")
+    return snapshot_text(in_order(files)), capture, heavy_settings(chance)
 
 
 def long_records(chance, names, times, form):
@@ -960,8 +766,8 @@ def long_replay(seed, faults=LONG_FAULTS):
     times = [START, START + 1] + [time for _, time, _ in files]
     form = chance.choice(reference.FORMATS)
     records = long_records(chance, names, times, form)
-    capture = capture_text(chance, form, START, records, chance.choice(faults) == "capture")
-    return snapshot_text(chance, files, False), capture, long_settings(chance)
+    capture = drawn_capture(chance, form, START, records, chance.choice(faults) == "capture")
+    return snapshot_text(in_order(files)), capture, long_settings(chance)
 
 
 def faulty_capture(seed):
@@ -969,7 +775,7 @@ def faulty_capture(seed):
     chance = random.Random("a fault, %d" % seed)
     form = chance.choice(reference.FORMATS)
     names = [name for name, _, _ in random_files(chance, START)]
-    return capture_text(chance, form, START, random_records(chance, names, [START], form), True)
+    return drawn_capture(chance, form, START, random_records(chance, names, [START], form), True)
 
 
 def few_connections(count, connections):
@@ -998,13 +804,12 @@ def limit_replays():
     costly = b"[costs]\nfile = 1000000\nkib = 1000000\n"
     costly += b"[policy]\nevery = 1\ntarget = 1000000000000\nlow = 100\nup = 1000000000\n"
     each = b"[policy]\nevery = 1\nwindow = 1\ndepth = 1000000\n"
-    open_policy = b"[policy]\ndepth = 1000000\nrate = 1000000000\nrate_max = 1000000000\n"
     # More bytes of pages than the staged engine holds at a time, and of pieces than it takes into a batch.
     pages = [(b"%d.txt" % number, START, b"%d" % number * 5_000_000) for number in range(4)]
     asked = b"".join(b"GET /%d.txt HTTP/1.1\r\nHost: a\r\n\r\n" % (number % 4) for number in range(20))
-    yield "pages", pages, ONE, START, [(0, 0, asked)], open_policy
+    yield "pages", pages, ONE, START, [(0, 0, asked)], OPEN
     bodies = [(number, number % 7, head % 65_000 + b"x" * 65_000) for number in range(300)]
-    yield "batch", FILES, ONE, START, bodies, open_policy
+    yield "batch", FILES, ONE, START, bodies, OPEN
     for past in (0, 1):
         yield "start", FILES, ONE, reference.START_LIMIT + past, records, None
         yield "tick", FILES, ONE, START, [(reference.TICK_LIMIT + past, 0, REQUEST)], None
@@ -1014,61 +819,41 @@ def limit_replays():
             yield "tier", FILES, form, START, [("tier", 0, reference.TIERS - 1 + past), (0, 0, REQUEST)], None
         yield "controls", FILES, TRAFFIC, START, controlled(reference.CONTROLS_SHOWN + past), each
         yield "piece", FILES, ONE, START, [(0, 0, REQUEST * 2048 + b"G" * past)], None
-        yield "body", FILES, ONE, START, [
-            (0, 0, head % (65_536 + past)),
-            (1, 0, b"x" * 65_536),
-            (2, 0, b"x" * past + REQUEST),
-        ], None
+        body = [(0, 0, head % (65_536 + past)), (1, 0, b"x" * 65_536), (2, 0, b"x" * past + REQUEST)]
+        yield "body", FILES, ONE, START, body, None
         yield "time", [(b"a.txt", reference.TIME_LIMIT + past, b"")], ONE, START, records, None
         yield "name", [(b"a.txt/" + b"x" * (reference.NAME_LIMIT - 6 + past), 0, b"")], ONE, START, records, None
-        yield "length", [(b"a.txt", 0, bytes(reference.FILE_LIMIT + past))], ONE, START, records * 2 + [
-            (10**11, 0, REQUEST)
-        ], costly
-        yield "files", [
-            (b"%05d" % number, 0, b"") for number in range(reference.FILES_LIMIT + past)
-        ], ONE, START, records, None
+        late = records * 2 + [(10**11, 0, REQUEST)]
+        yield "length", [(b"a.txt", 0, bytes(reference.FILE_LIMIT + past))], ONE, START, late, costly
+        many = [(b"%05d" % number, 0, b"") for number in range(reference.FILES_LIMIT + past)]
+        yield "files", many, ONE, START, records, None
         yield "settings", FILES, ONE, START, records, b"#" * (reference.SETTINGS_LIMIT + past)
     # So many bytes are worth more threads than there are connections; of 300 pieces the first batch has 16 MiB.
     for count, connections in (60, 1), (300, 1), (100, 3):
-        yield "few connections", FILES, ONE, START, few_connections(count, connections), open_policy
-
-
-def hundred_thousand():
-    """A capture of 100,000 requests on 100 connections."""
-    pieces = b"".join(b"piece %d %d 32\n%s\n" % (100 * number, number % 100, REQUEST) for number in range(100_000))
-    return b"haboob-capture 1 %d\n%sstop 100000\n" % (START, pieces)
+        yield "few connections", FILES, ONE, START, few_connections(count, connections), OPEN
 
 
 def run_program(program, words, files, written, seconds=SECONDS):
-    """Status, line on standard error, what a file holds after the run, and standard output, of a run over these files;
-    the status HANGS where it doesn't end."""
-    with tempfile.TemporaryDirectory() as folder:
-        for name, data in files.items():
-            with open(os.path.join(folder, name), "wb") as file:
-                file.write(data)
-        words = [program] + words + [word for name in files for word in ("--" + name, name)]
-        try:
-            child = subprocess.run(words, cwd=folder, stdin=subprocess.DEVNULL, capture_output=True, timeout=seconds)
-        except subprocess.TimeoutExpired:
-            return HANGS, b"it hangs", b"", b""
-        with open(os.path.join(folder, written), "rb") as file:
-            told = child.stderr if words[1] == "settings" else without_words(child.stderr)
-            return child.returncode, told, file.read(), child.stdout
+    """Status, line on standard error, what a file holds after the run, and standard output, of one over these files."""
+    status, line, output, after = run_over(program, [*words, *options(*files)], files, seconds=seconds)
+    return status, line if words[0] == "settings" else without_words(line), after[written], output
 
 
-def run_replay(program, engine, snapshot, capture, settings, seconds=SECONDS):
-    """Status, line on standard error, replies and report of a replay."""
-    files = {"snapshot": snapshot, "capture": capture, "replies": OLD_REPLIES}
-    if settings is not None:
-        files["settings"] = settings
-    return run_program(program, ["replay"] + engine, files, "replies", seconds)
+def replay_files(snapshot, capture, settings, written="replies"):
+    """The files of a replay, or of a table of decisions."""
+    files = {"snapshot": snapshot, "capture": capture, written: OLD_REPLIES}
+    return files if settings is None else {**files, "settings": settings}
+
+
+def run_replay(program, words, snapshot, capture, settings, seconds=SECONDS):
+    """Status, line on standard error, replies and report of a replay with these words besides."""
+    files = replay_files(snapshot, capture, settings)
+    return run_program(program, ["replay", *words], files, "replies", seconds)
 
 
 def run_explain(program, snapshot, capture, settings, words=()):
     """Status, line on standard error, table of decisions and report, with these words besides."""
-    files = {"snapshot": snapshot, "capture": capture, "messages": OLD_REPLIES}
-    if settings is not None:
-        files["settings"] = settings
+    files = replay_files(snapshot, capture, settings, "messages")
     return run_program(program, ["explain", *words], files, "messages")
 
 
@@ -1098,7 +883,7 @@ def are_words_of(line, words):
 
 def run_upgrade(program, capture, words):
     """Status, line on standard error, output and standard output of an upgrade with these words besides."""
-    return run_program(program, ["upgrade"] + words, {"capture": capture, "output": OLD_REPLIES}, "output")
+    return run_program(program, ["upgrade", *words], {"capture": capture, "output": OLD_REPLIES}, "output")
 
 
 def with_last_controls(report):
@@ -1120,12 +905,12 @@ def difference(parts, wanted, got):
     return None
 
 
-class Comparison:
+class Comparison(Report):
     """Runs the program, and counts the runs and those that answer otherwise than they should, which it prints."""
 
     def __init__(self, program):
-        self.program, self.replays, self.tables, self.upgrades, self.wrong = program, 0, 0, 0, 0
-        self.speed = 100
+        super().__init__()
+        self.program, self.replays, self.tables, self.upgrades, self.speed = program, 0, 0, 0, 100
 
     def words(self):
         """The words for the speed."""
@@ -1135,15 +920,24 @@ class Comparison:
         """Prints where an answer is wrong."""
         found = difference(PARTS[verb], wanted, got)
         if found:
-            self.wrong += 1
-            print("%s, %s: WRONG: %s" % (name, verb, found), flush=True)
+            self.tell_wrong("%s, %s: WRONG: %s" % (name, verb, found))
+
+    def run_replay(self, words, *texts):
+        return run_replay(self.program, words, *texts)
 
     def replay(self, name, wanted, *texts):
         """Replays with both engines."""
         for engine in ENGINES:
             self.replays += 1
             words = engine + self.words()
-            self.judge("replay", " ".join([name] + words), wanted, run_replay(self.program, words, *texts))
+            self.judge("replay", " ".join([name] + words), wanted, self.run_replay(words, *texts))
+
+    def replay_as_reference(self, name, snapshot, capture, settings):
+        """Replays with both engines; what the reference answers."""
+        status, line, replies, report = reference.replay(snapshot, capture, settings or b"", self.speed)
+        wanted = status, line, OLD_REPLIES if replies is None else replies, report
+        self.replay(name, wanted, snapshot, capture, settings)
+        return wanted
 
     def explain(self, name, snapshot, capture, settings):
         """Compares the table of decisions, and what the capture holds."""
@@ -1183,9 +977,8 @@ class Comparison:
 
     def compare(self, name, snapshot, capture, settings):
         """Replays and upgrades; what the reference answers to the replay."""
-        status, line, replies, report = reference.replay(snapshot, capture, settings or b"", self.speed)
-        wanted = status, line, OLD_REPLIES if replies is None else replies, report
-        self.replay(name, wanted, snapshot, capture, settings)
+        wanted = self.replay_as_reference(name, snapshot, capture, settings)
+        report = wanted[3]
         self.explain(name, snapshot, capture, settings)
         self.settings(name, settings or b"")
         for upgraded in self.upgrade_all(name, capture):
@@ -1194,10 +987,14 @@ class Comparison:
             self.replay(title, (*wanted[:3], again), snapshot, upgraded, settings)
         return wanted
 
+    def end(self, counts="{replays} replays, {tables} tables and inspections, {upgrades} upgrades, {wrong} wrong"):
+        return super().end(counts)
+
 
 def compare_large(comparison, name, settings):
     """Compares a run of 100,000 requests, and prints what happens in it."""
-    _, _, _, report = comparison.compare(name, SNAPSHOT, hundred_thousand(), settings)
+    capture = recording_text([(100 * number, number % 100, REQUEST) for number in range(100_000)])
+    _, _, _, report = comparison.compare(name, SNAPSHOT, capture, settings)
     happened = re.findall(r"(?m)^(?:admitted|rejected|controls) \d+", report.decode())
     print("%-30s %s" % (name, ", ".join(happened)), flush=True)
 
@@ -1206,7 +1003,7 @@ def compare_limits(comparison, chance):
     """Compares replays at and past the limits."""
     count = 0
     for name, files, form, start, records, settings in limit_replays():
-        texts = snapshot_text(None, files, False), capture_text(None, form, start, records, False)
+        texts = snapshot_text(in_order(files)), recording_text(records, form.begin, start)
         least = 65_536 if name in ("batch", "few connections") else 1
         comparison.compare("limit of " + name, *texts, with_floor(chance, settings, least))
         count += 1
@@ -1241,20 +1038,15 @@ def compare_heavy(comparison, count, first):
 
 
 def main():
-    if not 2 <= len(sys.argv) <= 4:
-        sys.exit(__doc__)
-    comparison = Comparison(os.path.abspath(sys.argv[1]))
-    count, first = (int(word) for word in (sys.argv[2:] + ["40", "0"][len(sys.argv) - 2 :]))
-    chance = random.Random(first)
+    words = with_seeds(parser_of(__doc__), 40).parse_args()
+    comparison, chance = Comparison(words.program), random.Random(words.first)
     compare_large(comparison, "hundred thousand requests", None)
     # With a batch of one piece it takes longer.
     compare_large(comparison, "hundred thousand, tight bucket", with_floor(chance, TIGHT, 1000))
     compare_limits(comparison, chance)
-    compare_random(comparison, count, first)
-    compare_heavy(comparison, HEAVY, first)
-    counts = comparison.replays, comparison.tables, comparison.upgrades, comparison.wrong
-    print("%d replays, %d tables and inspections, %d upgrades, %d wrong" % counts)
-    return comparison.wrong != 0
+    compare_random(comparison, words.count, words.first)
+    compare_heavy(comparison, HEAVY, words.first)
+    return comparison.end()
 
 
 if __name__ == "__main__":

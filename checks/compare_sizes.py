@@ -7,16 +7,13 @@ that answers otherwise there, is found.
 Each replay is compared as those of compare_replays.py are: both engines, the table of decisions, what the capture
 holds, the settings, and the upgrade. Exits with 1 where anything differs.
 """
-import os
 import sys
 
-# The folder stays as it is.
-sys.dont_write_bytecode = True
-import compare_replays
+from lib.texts import OPEN, REQUEST, SNAPSHOT, TIME as START, recording_text, snapshot_text, table_text
+from lib.usage import program_of
 import reference
-from compare_replays import FILES, REQUEST, START, Comparison, capture_text, snapshot_text
+from compare_replays import Comparison, in_order
 
-OPEN = b"[policy]\ndepth = 1000000\nrate = 1000000000\nrate_max = 1000000000\n"
 # The shortest request.
 SHORTEST = b"G / HTTP/1.1\nHost:\n\n"
 WRONG = b"G / HTTP/1.1\n\n"
@@ -26,7 +23,7 @@ LAST = TWO.last
 
 def floor(**keys):
     """A table of settings for the floors."""
-    return b"[floor]\n" + "".join("%s = %s\n" % pair for pair in keys.items()).encode()
+    return table_text("floor", **keys)
 
 
 def pieces(count, connections=50, data=REQUEST):
@@ -42,7 +39,7 @@ def in_turn(count, connections=50, data=REQUEST):
 
 def with_fault(records, instead, form=ONE):
     """The text of a recording whose last line is another."""
-    text = capture_text(None, form, START, records, False)
+    text = recording_text(records, form.begin)
     return text[:text.rindex(b"stop")] + instead
 
 
@@ -122,22 +119,16 @@ def documents():
 
 
 def main():
-    if len(sys.argv) != 2:
-        sys.exit(__doc__)
-    comparison = Comparison(os.path.abspath(sys.argv[1]))
+    comparison = Comparison(program_of(__doc__))
     for name, capture, settings in late_faults():
-        comparison.compare(name, compare_replays.SNAPSHOT, capture, settings)
+        comparison.compare(name, SNAPSHOT, capture, settings)
     for name, form, records, settings in sized_captures():
-        capture = capture_text(None, form, START, records, False)
-        comparison.compare(name, snapshot_text(None, FILES, False), capture, settings)
+        comparison.compare(name, SNAPSHOT, recording_text(records, form.begin), settings)
     for name, files, records, settings in sized_snapshots():
-        capture = capture_text(None, ONE, START, records, False)
-        comparison.compare(name, snapshot_text(None, files, False), capture, settings)
+        comparison.compare(name, snapshot_text(in_order(files)), recording_text(records), settings)
     for name, document in documents():
         comparison.settings(name, document)
-    counts = comparison.replays, comparison.tables, comparison.upgrades, comparison.wrong
-    print("%d replays, %d tables and inspections, %d upgrades, %d wrong" % counts)
-    return comparison.wrong != 0
+    return comparison.end()
 
 
 if __name__ == "__main__":

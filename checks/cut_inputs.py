@@ -11,32 +11,21 @@ A snapshot cut after each of its bytes. And texts of requests (dates, bodies, fa
 file) in one piece, and in pieces of one byte at the same tick: the replies are the same. Exits with 1 where anything
 differs.
 """
-import os
 import sys
 
-# The folder stays as it is.
-sys.dont_write_bytecode = True
-import compare_replays
-import reference
+from lib.texts import CLOSING, REQUEST as GET, ONE, TRAFFIC, TWO, recording_text, snapshot_text
+from lib.usage import program_of
+from compare_replays import Comparison
 
-SNAPSHOT = b"haboob-snapshot 1\nfile 784111777 5 3\na.txt\nhi\n\nfile 784111777 1 0\ne\n\nend 2\n"
-GET = b"GET /a.txt HTTP/1.1\r\nHost: a\r\n\r\n"
-CLOSING = GET[:-2] + b"Connection: close\r\n\r\n"
-FIRST = b"haboob-capture %d 784111777\n"
+SNAPSHOT = snapshot_text([(b"a.txt", b"hi\n"), (b"e", b"")])
 DATE = b"If-Modified-Since: Sun, 06 Nov 1994 08:49:%d GMT\r\n\r\n"
 POST = b"POST /a.txt HTTP/1.1\r\nHost: a\r\n"
-
-
-def piece(conn, data, tick=7):
-    return b"piece %d %d %d\n%b\n" % (tick, conn, len(data), data)
-
-
 CAPTURES = [
-    FIRST % 1 + piece(0, GET + CLOSING + GET) + b"stop 1\n",
-    FIRST % 1 + piece(9, GET) + piece(2, GET) + b"stop 2\n",
-    FIRST % 2 + b"tier 9 1\n" + piece(9, GET[:20]) + b"end 7 2\n" + piece(9, GET[20:], 8) + b"stop 4\n",
-    b"haboob-traffic 1 784111777\n" + b"tier 9 1\n" + piece(9, GET + GET[:20]) + b"end 7 9\n" + piece(9, GET[20:])
-    + b"end 8 9\nend 8 9\ntier 9 2\n" + piece(9, GET, 8) + b"end 8 9\n" + piece(9, GET, 9) + b"stop 10\n",
+    recording_text([(7, 0, GET + CLOSING + GET)], ONE),
+    recording_text([(7, 9, GET), (7, 2, GET)], ONE),
+    recording_text([("tier", 9, 1), (7, 9, GET[:20]), (7, 2), (8, 9, GET[20:])], TWO),
+    recording_text([("tier", 9, 1), (7, 9, GET + GET[:20]), (7, 9), (7, 9, GET[20:]), (8, 9), (8, 9), ("tier", 9, 2),
+                    (8, 9, GET), (8, 9), (9, 9, GET)], TRAFFIC),
 ]
 TEXTS = [
     GET + CLOSING + GET,
@@ -58,28 +47,16 @@ def replays():
     for end in range(len(SNAPSHOT)):
         yield "snapshot cut after %d bytes" % end, SNAPSHOT[:end], CAPTURES[0]
     for number, text in enumerate(TEXTS):
-        yield "text %d in one piece" % number, SNAPSHOT, FIRST % 1 + piece(0, text) + b"stop 1\n"
-        pieces = b"".join(piece(0, text[at:at + 1]) for at in range(len(text)))
-        yield "text %d in pieces of one byte" % number, SNAPSHOT, FIRST % 1 + pieces + b"stop %d\n" % len(text)
+        yield "text %d in one piece" % number, SNAPSHOT, recording_text([(7, 0, text)])
+        pieces = [(7, 0, text[at:at + 1]) for at in range(len(text))]
+        yield "text %d in pieces of one byte" % number, SNAPSHOT, recording_text(pieces)
 
 
 def main():
-    if len(sys.argv) != 2:
-        sys.exit(__doc__)
-    program = os.path.abspath(sys.argv[1])
-    count, wrong = 0, 0
+    comparison = Comparison(program_of(__doc__))
     for name, snapshot, capture in replays():
-        status, line, replies, report = reference.replay(snapshot, capture)
-        wanted = status, line, compare_replays.OLD_REPLIES if replies is None else replies, report
-        for engine in compare_replays.ENGINES:
-            got = compare_replays.run_replay(program, engine, snapshot, capture, b"")
-            found = compare_replays.difference(compare_replays.PARTS["replay"], wanted, got)
-            count += 1
-            if found:
-                wrong += 1
-                print("%s, %s: WRONG: %s" % (name, " ".join(engine) or "staged", found))
-    print("%d runs, %d wrong" % (count, wrong))
-    return int(wrong > 0)
+        comparison.replay_as_reference(name, snapshot, capture, b"")
+    return comparison.end("{replays} runs, {wrong} wrong")
 
 
 if __name__ == "__main__":

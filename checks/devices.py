@@ -19,19 +19,18 @@ import os
 import resource
 import shutil
 import signal
-import subprocess
 import sys
 import tempfile
 import threading
 
-# The folder stays as it is.
-sys.dont_write_bytecode = True
+from lib import shim
+from lib.report import Report
+from lib.run import HANGS, contents, options, put, run
+from lib.texts import REQUEST, SNAPSHOT, recording_text, snapshot_text
+from lib.usage import program_of
 import reference
 
 SECONDS = 60
-TOP = os.path.dirname(os.path.dirname(os.path.abspath(__file__)))
-SNAPSHOT = b"haboob-snapshot 1\nfile 784111777 5 3\na.txt\nhi\n\nend 1\n"
-REQUEST = b"GET /a.txt HTTP/1.1\r\nHost: a\r\n\r\n"
 SETTINGS = b"[policy]\ndepth = 50\n[floor]\nbatch = 100\n"
 # A batch that is worth threads, once it is read whole for its long targets: for its cutting, more than 5,000,000 bytes
 # without the first 1,024 of each piece, and for the front floor 4 MiB of targets and more.
@@ -44,7 +43,7 @@ ALONE = b"[policy]\ndepth = 1000000\n[floor]\nbatch = 8192\n"
 NARROW_FRONT = b"front_cuts = [3]\nfront_workers = [1]\nfront_capacities = [64]\n"
 NARROW_BACK = b"back_cuts = [2]\nback_workers = [1]\nback_capacities = [64]\n"
 LONG_TARGET = b"GET /%b HTTP/1.1\r\nHost: a\r\n\r\n" % (b"a.txt/" * 250)
-LARGE_FILE = SNAPSHOT.replace(b"end 1\n", b"file 784111777 5 1048576\nb.txt\n%b\nend 2\n" % (b"hi" * 2**19))
+LARGE_FILE = snapshot_text([(b"a.txt", b"hi\n"), (b"b.txt", b"hi" * 2**19)])
 PROCESSORS = 4
 ENGINES = (["--engine", "plain"], ["--engine", "staged"])
 # How often the settings are read: once whole, once more at their end.
@@ -62,57 +61,22 @@ MEMORY = 7, b"haboob: memory\n"
 
 def capture_of(requests, connections=50):
     """A capture of these requests, one to a piece, on so many connections."""
-    pieces = b"".join(
-        b"piece %d %d %d\n%b\n" % (100 * number, number % connections, len(request), request)
-        for number, request in enumerate(requests)
-    )
-    return b"haboob-capture 1 784111777\n%bstop %d\n" % (pieces, len(requests))
+    return recording_text([(100 * number, number % connections, data) for number, data in enumerate(requests)])
 
 
 class Replay:
     """The files of a replay, and what it is to write."""
 
     def __init__(self, requests, settings=SETTINGS, connections=50, snapshot=SNAPSHOT):
-        self.snapshot, self.capture, self.settings = snapshot, capture_of(requests, connections), settings
+        self.snapshot, self.capture = snapshot, capture_of(requests, connections)
+        self.files = {"snapshot": snapshot, "capture": self.capture, "settings": settings, "replies": b""}
         status, line, self.replies, self.report = reference.replay(snapshot, self.capture, settings)
         assert (status, line) == (0, b"")
-
-    def put(self, folder):
-        files = ("snapshot", self.snapshot), ("capture", self.capture), ("settings", self.settings), ("replies", b"")
-        for name, data in files:
-            with open(os.path.join(folder, name), "wb") as file:
-                file.write(data)
 
 
 def words(engine, **names):
     """The words of a replay; each file has the name of its option where no other is given."""
-    options = ("snapshot", "capture", "settings", "replies")
-    return ["replay", *(word for name in options for word in ("--" + name, names.get(name, name))), *engine]
-
-
-def contents(folder, name):
-    with open(os.path.join(folder, name), "rb") as file:
-        return file.read()
-
-
-def run(program, words, folder, **more):
-    """Status, line and standard output of a run."""
-    devices = {"stdin": subprocess.DEVNULL, "stdout": subprocess.PIPE, "stderr": subprocess.PIPE, **more}
-    ran = subprocess.run([program, *words], cwd=folder, timeout=SECONDS, **devices)
-    return ran.returncode, ran.stderr, ran.stdout
-
-
-class Checks:
-    """Counts the runs, and prints those that are wrong."""
-
-    def __init__(self):
-        self.count, self.wrong = 0, 0
-
-    def see(self, name, good, got):
-        self.count += 1
-        if not good:
-            self.wrong += 1
-            print("WRONG: %s: %r" % (name, got), flush=True)
+    return ["replay", *options("snapshot", "capture", "settings", "replies", **names), *engine]
 
 
 def feed(name, data):
@@ -138,7 +102,7 @@ def drain(name, most, into):
 def by_pipes(program, replay, engine, most):
     """A replay whose inputs come byte by byte, and whose replies go into a pipe with such a reader."""
     with tempfile.TemporaryDirectory() as folder:
-        replay.put(folder)
+        put(folder, replay.files)
         for name in ("pipe_in", "pipe_too", "pipe_out"):
             os.mkfifo(os.path.join(folder, name))
         got = bytearray()
@@ -147,21 +111,21 @@ def by_pipes(program, replay, engine, most):
                    threading.Thread(target=drain, args=(os.path.join(folder, "pipe_out"), most, got))]
         for helper in helpers:
             helper.start()
-        ran = run(program, words(engine, snapshot="pipe_in", capture="pipe_too", replies="pipe_out"), folder)
+        ran = run(program, words(engine, snapshot="pipe_in", capture="pipe_too", replies="pipe_out"), folder, SECONDS)
         for helper in helpers:
             helper.join()
         return ran, bytes(got)
 
 
-def check_pipes(checks, program):
+def check_pipes(report, program):
     small, large = Replay([REQUEST] * 40), Replay([REQUEST] * 5000)
     for engine in ENGINES:
         ran, got = by_pipes(program, small, engine, len(small.replies) + 1)
         good = (ran, got) == ((0, b"", small.report), small.replies)
-        checks.see("pipes, byte by byte, " + engine[1], good, (ran, got))
+        report.see("pipes, byte by byte, " + engine[1], good, (ran, got))
         ran, got = by_pipes(program, large, engine, 100)
         good = (ran, got) == ((*WRITE, b""), large.replies[:100])
-        checks.see("a reader that goes away, " + engine[1], good, (ran, got))
+        report.see("a reader that goes away, " + engine[1], good, (ran, got))
 
 
 def full_at(place):
@@ -172,42 +136,43 @@ def full_at(place):
     return limit
 
 
-def check_full_files(checks, program):
+def check_full_files(report, program):
     replay = Replay([REQUEST] * 1000)
     for engine in ENGINES:
         for place in PLACES:
             with tempfile.TemporaryDirectory() as folder:
-                replay.put(folder)
-                ran = run(program, words(engine), folder, preexec_fn=full_at(place))
+                put(folder, replay.files)
+                ran = run(program, words(engine), folder, SECONDS, preexec_fn=full_at(place))
                 got = ran, contents(folder, "replies")
             good = got == ((*WRITE, b""), replay.replies[:place])
-            checks.see("replies full at %d, %s" % (place, engine[1]), good, got)
+            report.see("replies full at %d, %s" % (place, engine[1]), good, got)
         for place in (0, 10, len(replay.report) - 1):
-            with tempfile.TemporaryDirectory() as folder, open(os.path.join(folder, "report"), "wb") as report:
-                replay.put(folder)
-                ran = run(program, words(engine, replies="/dev/null"), folder, stdout=report, preexec_fn=full_at(place))
+            with tempfile.TemporaryDirectory() as folder, open(os.path.join(folder, "report"), "wb") as out:
+                put(folder, replay.files)
+                ran = run(program, words(engine, replies="/dev/null"), folder, SECONDS, stdout=out,
+                          preexec_fn=full_at(place))
                 got = ran, contents(folder, "report")
             good = got == ((*REPORT, None), replay.report[:place])
-            checks.see("report full at %d, %s" % (place, engine[1]), good, got)
+            report.see("report full at %d, %s" % (place, engine[1]), good, got)
 
 
 MOUNTED = 'mount -t tmpfs -o size=%d none disk || exit 99; "$@"; status=$?; cat disk/replies >kept; exit $status' % DISK
 
 
-def check_full_disk(checks, program):
+def check_full_disk(report, program):
     """The replies go onto a disk of its own with room for a part of them; whether there was one."""
     replay = Replay([REQUEST] * 1000)
     for engine in ENGINES:
         with tempfile.TemporaryDirectory() as folder:
-            replay.put(folder)
+            put(folder, replay.files)
             os.mkdir(os.path.join(folder, "disk"))
             own = ["--user", "--map-root-user", "--mount", "sh", "-c", MOUNTED, "sh", program]
             on_disk = words(engine, replies="disk/replies")
-            ran = run("unshare", own + on_disk, folder) if shutil.which("unshare") else (99, b"", b"")
+            ran = run("unshare", own + on_disk, folder, SECONDS) if shutil.which("unshare") else (99, b"", b"")
             if ran[0] in (1, 99):
                 return False
             got = ran, contents(folder, "kept")
-        checks.see("a full disk, " + engine[1], got == ((*WRITE, b""), replay.replies[:DISK]), got)
+        report.see("a full disk, " + engine[1], got == ((*WRITE, b""), replay.replies[:DISK]), got)
     return True
 
 
@@ -236,20 +201,17 @@ def tasks(requests):
     yield replay, Task("upgrade to traffic", upgrade + ["--to", "traffic"], b"", wanted, [replay.capture])
 
 
-def run_poorly(program, replay, task, shim, **poor):
+def run_poorly(program, replay, task, library, **poor):
     """Status, line and what stands at each device of a run with poor devices, and whether a call failed."""
     with tempfile.TemporaryDirectory() as folder:
-        replay.put(folder)
-        for name, data in (("in", task.given), ("output", b""), ("failed", b"")):
-            with open(os.path.join(folder, name), "wb") as file:
-                file.write(data)
+        put(folder, replay.files)
+        put(folder, {"in": task.given, "output": b"", "failed": b""})
         with open(os.path.join(folder, "in"), "rb") as given, open(os.path.join(folder, "out"), "wb") as out, \
                 open(os.path.join(folder, "failed"), "wb") as failed:
             told = failed.fileno()
-            poor = {"FAILED": told, "PROCESSORS": PROCESSORS, **poor}
-            world = {**os.environ, "LD_PRELOAD": shim, **{name: str(poor[name]) for name in poor}}
+            world = shim.world(library, **{"FAILED": told, "PROCESSORS": PROCESSORS, **poor})
             how = {"env": world, "stdin": given, "stdout": out, "pass_fds": [told]}
-            status, line, _ = run(program, task.words, folder, **how)
+            status, line, _ = run(program, task.words, folder, SECONDS, **how)
         return status, line, {name: contents(folder, name) for name in task.wanted}, contents(folder, "failed") != b""
 
 
@@ -257,7 +219,7 @@ def is_prefix(wanted, got):
     return all(wanted[name].startswith(got[name]) for name in wanted)
 
 
-def check_failing(checks, program, replay, task, shim, calls, error):
+def check_failing(report, program, replay, task, library, calls, error):
     """Fails each read or each write of a task in turn, until one run meets no failure."""
     line = b"haboob: " + calls.lower().encode() + b": "
     # std's own reader of a whole file, which reads the settings before all else, tries an interrupted read again
@@ -266,31 +228,33 @@ def check_failing(checks, program, replay, task, shim, calls, error):
     while met:
         number += 1
         poor = {"READ_MOST": 256, "WRITE_MOST": 256, calls + "_FAILS": number, "ERROR": error}
-        status, told, got, met = run_poorly(program, replay, task, shim, **poor)
+        status, told, got, met = run_poorly(program, replay, task, library, **poor)
         whole = (status, told, got) == (0, b"", task.wanted)
         refused = status == 6 and told.startswith(line) and is_prefix(task.wanted, got)
         good = whole if not met or number <= tried else refused
         name = "%s: %s %d fails by %s" % (task.name, calls, number, errno.errorcode[error])
-        checks.see(name, good, (status, told, got))
+        report.see(name, good, (status, told, got))
+        met = met and status != HANGS
 
 
-def check_reads(checks, program, replay, task, shim):
+def check_reads(report, program, replay, task, library):
     """No read after those that the inputs need: the next one would fail."""
     most = sum(len(given) // ROOM + 2 for given in task.inputs)
-    got = run_poorly(program, replay, task, shim, READ_FAILS=most + 1, ERROR=errno.EIO)
-    checks.see("%s: at most %d reads" % (task.name, most), got == (0, b"", task.wanted, False), got)
+    got = run_poorly(program, replay, task, library, READ_FAILS=most + 1, ERROR=errno.EIO)
+    report.see("%s: at most %d reads" % (task.name, most), got == (0, b"", task.wanted, False), got)
 
 
-def check_threads(checks, program, replay, task, shim):
+def check_threads(report, program, replay, task, library):
     """Refuses each thread of a task in turn, until a run starts no more."""
     number, met = 0, True
     while met:
         number += 1
-        status, told, got, met = run_poorly(program, replay, task, shim, THREAD_FAILS=number)
+        status, told, got, met = run_poorly(program, replay, task, library, THREAD_FAILS=number)
         whole = (status, told, got) == (0, b"", task.wanted)
         refused = (status, told, got["out"]) == (*MEMORY, b"") and is_prefix(task.wanted, got)
         name = "%s: thread %d can't be started" % (task.name, number)
-        checks.see(name, whole or (met and refused), (status, told, got))
+        report.see(name, whole or (met and refused), (status, told, got))
+        met = met and status != HANGS
     return number - 1
 
 
@@ -307,51 +271,44 @@ def staged_replays():
     yield "one worker on each floor", Replay(large, ALONE + NARROW_FRONT + NARROW_BACK), 0
 
 
-def check_staged_threads(checks, program, shim):
+def check_staged_threads(report, program, library):
     """Refuses each thread of some staged replays in turn."""
     for name, replay, least in staged_replays():
         task = Task("staged, " + name, words(ENGINES[1]), b"", {"replies": replay.replies, "out": replay.report})
-        count = check_threads(checks, program, replay, task, shim)
+        count = check_threads(report, program, replay, task, library)
         print("%s: %d threads were refused in turn" % (name, count))
-        checks.see("threads of " + name, count >= least if least else count == 0, count)
+        report.see("threads of " + name, count >= least if least else count == 0, count)
 
 
-def check_poor(checks, program):
+def check_poor(report, program):
     """Whether there is a compiler for what makes devices poor."""
-    compiler = shutil.which(os.environ.get("CC", "cc"))
-    if compiler is None:
-        return False
     with tempfile.TemporaryDirectory() as folder:
-        shim = os.path.join(folder, "devices.so")
-        source = os.path.join(TOP, "checks", "devices.c")
-        subprocess.run([compiler, "-shared", "-fPIC", "-O1", "-o", shim, source, "-ldl"], check=True)
+        library = shim.built("devices", folder)
+        if library is None:
+            return False
         for requests in (12, 5000):
             for replay, task in tasks(requests):
-                check_reads(checks, program, replay, task, shim)
+                check_reads(report, program, replay, task, library)
         for replay, task in tasks(12):
             for poor in ({"READ_MOST": 1}, {"WRITE_MOST": 1}, {"READ_MOST": 1, "WRITE_MOST": 1}):
-                got = run_poorly(program, replay, task, shim, **poor)
-                checks.see("%s with %s" % (task.name, poor), got == (0, b"", task.wanted, False), got)
+                got = run_poorly(program, replay, task, library, **poor)
+                report.see("%s with %s" % (task.name, poor), got == (0, b"", task.wanted, False), got)
             for calls in ("READ", "WRITE"):
                 for error in (errno.EIO, errno.EINTR):
-                    check_failing(checks, program, replay, task, shim, calls, error)
-        check_staged_threads(checks, program, shim)
+                    check_failing(report, program, replay, task, library, calls, error)
+        check_staged_threads(report, program, library)
     return True
 
 
 def main():
-    if len(sys.argv) != 2:
-        sys.exit(__doc__)
-    program = os.path.abspath(sys.argv[1])
-    checks = Checks()
-    check_pipes(checks, program)
-    check_full_files(checks, program)
-    if not check_full_disk(checks, program):
+    program, report = program_of(__doc__), Report(quiet=True)
+    check_pipes(report, program)
+    check_full_files(report, program)
+    if not check_full_disk(report, program):
         print("no disk can be mounted: a full one was not tried")
-    if not check_poor(checks, program):
-        checks.see("a C compiler, for poor reads and writes", False, "none")
-    print("%d runs, %d wrong" % (checks.count, checks.wrong))
-    return int(checks.wrong > 0)
+    if not check_poor(report, program):
+        report.see("a C compiler, for poor reads and writes", False, "none")
+    return report.end("{runs} runs, {wrong} wrong")
 
 
 if __name__ == "__main__":

@@ -1,7 +1,7 @@
 #!/usr/bin/env python3
 """Runs the commands that README.md and pages of docs/ show, and compares what they print with what stands below them.
 
-usage: documents.py PROGRAM
+    checks/documents.py PROGRAM
 
 A command stands in an indented block after `$ `, on one or more lines; the lines up to the next command are its
 output. A line `..` in it stands for any lines. The commands of a document run one after another in one folder, which
@@ -12,6 +12,9 @@ import re
 import subprocess
 import sys
 import tempfile
+
+from lib.sources import TOP, read
+from lib.usage import program_of
 
 DOCUMENTS = ["README.md"] + [os.path.join("docs", name) for name in ("WALK.md", "FORMATS.md", "POLICY.md")]
 INDENT = "    "
@@ -50,15 +53,8 @@ def is_shown(output, shown):
 def run(command, folder):
     """What a command prints."""
     words = dict(os.environ, PATH=folder + os.pathsep + os.environ["PATH"])
-    ran = subprocess.run(
-        ["bash", "-o", "pipefail", "-c", command],
-        cwd=folder,
-        env=words,
-        timeout=SECONDS,
-        stdin=subprocess.DEVNULL,
-        stdout=subprocess.PIPE,
-        stderr=subprocess.STDOUT,
-    )
+    ran = subprocess.run(["bash", "-o", "pipefail", "-c", command], cwd=folder, env=words, timeout=SECONDS,
+                         stdin=subprocess.DEVNULL, stdout=subprocess.PIPE, stderr=subprocess.STDOUT)
     return ran.stdout.decode()
 
 
@@ -70,14 +66,12 @@ def has_libraries():
         return False
 
 
-def check(top, program, document):
+def check(program, document):
     """How many commands of a document were run, and how many print something else than it shows."""
-    with open(os.path.join(top, document)) as file:
-        commands = commands_of(file.read())
-    wrong = 0
+    commands, wrong = commands_of(read(document)), 0
     with tempfile.TemporaryDirectory() as folder:
         for name in ("examples", "tools"):
-            os.symlink(os.path.join(top, name), os.path.join(folder, name))
+            os.symlink(os.path.join(TOP, name), os.path.join(folder, name))
         os.symlink(program, os.path.join(folder, "haboob"))
         for command, shown in commands:
             output = run(command, folder)
@@ -88,19 +82,16 @@ def check(top, program, document):
 
 
 def main():
-    if len(sys.argv) != 2:
-        sys.exit(__doc__)
-    top = os.path.dirname(os.path.dirname(os.path.abspath(__file__)))
-    program = os.path.abspath(sys.argv[1])
+    program = program_of(__doc__)
     if not has_libraries():
         sys.exit("needs the libraries of the tools: dpkt, matplotlib, scipy, tqdm")
     all_wrong = 0
     for document in DOCUMENTS:
-        count, wrong = check(top, program, document)
+        count, wrong = check(program, document)
         print("%s: %d commands, %d wrong" % (document, count, wrong))
         all_wrong += wrong + (count == 0)
-    sys.exit(all_wrong != 0)
+    return int(all_wrong != 0)
 
 
 if __name__ == "__main__":
-    main()
+    sys.exit(main())

@@ -9,76 +9,25 @@ doubled or put in, lines change places or come twice, numbers become others or s
 engines, with limits of time and memory; its table of decisions and what its capture holds are compared as well. Exits
 with 1 where a run answers otherwise than the reference, hangs, is killed, or takes more memory than MEMORY.
 """
-import os
 import random
 import re
-import subprocess
 import sys
 import tempfile
 
-# The folder stays as it is.
-sys.dont_write_bytecode = True
+from lib.run import contents, options, put, run_measured, without_words
+from lib.usage import parser_of, with_seeds
 import compare_replays
-import reference
-from program_parts import without_words
 
 SECONDS = 120
 
 # The most memory of a run, in bytes: the inputs have less than a megabyte.
 MEMORY = 128 * 2**20
 
-LIMITS = (
-    0,
-    1,
-    3,
-    4,
-    64,
-    255,
-    256,
-    1023,
-    1024,
-    1025,
-    4095,
-    4096,
-    8191,
-    8192,
-    65_535,
-    65_536,
-    65_537,
-    2**20,
-    2**24,
-    2**24 + 1,
-    2**29,
-    2**30,
-    2**32,
-    4_102_444_800,
-    10**15,
-    10**15 + 1,
-    2**50,
-    2**63,
-    2**64 - 1,
-    2**64,
-    10**25,
-)
-WORDS = (
-    b"\n",
-    b"\r\n",
-    b"\n\r",
-    b" ",
-    b"\0",
-    b"\xff",
-    b"piece 0 0 1\n",
-    b"end 0 0\n",
-    b"tier 0 1\n",
-    b"stop 0\n",
-    b"file 0 1 1\n",
-    b"haboob-capture 2 0\n",
-    b"haboob-traffic 1 0\n",
-    b"GET / HTTP/1.1\r\n",
-    b"Content-Length: 65537\r\n",
-    b"Host:\r\n",
-    b"\r\n\r\n",
-)
+LIMITS = (0, 1, 3, 4, 64, 255, 256, 1023, 1024, 1025, 4095, 4096, 8191, 8192, 65_535, 65_536, 65_537, 2**20, 2**24,
+          2**24 + 1, 2**29, 2**30, 2**32, 4_102_444_800, 10**15, 10**15 + 1, 2**50, 2**63, 2**64 - 1, 2**64, 10**25)
+WORDS = (b"\n", b"\r\n", b"\n\r", b" ", b"\0", b"\xff", b"piece 0 0 1\n", b"end 0 0\n", b"tier 0 1\n", b"stop 0\n",
+         b"file 0 1 1\n", b"haboob-capture 2 0\n", b"haboob-traffic 1 0\n", b"GET / HTTP/1.1\r\n",
+         b"Content-Length: 65537\r\n", b"Host:\r\n", b"\r\n\r\n")
 
 
 def lines_exchanged(chance, text):
@@ -137,16 +86,8 @@ def word_put_in(chance, text):
     return text[:at] + chance.choice(WORDS) + text[at:]
 
 
-DAMAGES = (
-    lines_exchanged,
-    line_doubled,
-    number_changed,
-    number_changed,
-    byte_changed,
-    cut_out,
-    part_doubled,
-    word_put_in,
-)
+DAMAGES = (lines_exchanged, line_doubled, number_changed, number_changed, byte_changed, cut_out, part_doubled,
+           word_put_in)
 
 
 def damaged(chance, text):
@@ -169,60 +110,33 @@ def hostile_replay(seed):
     return snapshot, capture, settings
 
 
-def run(program, engine, snapshot, capture, settings):
-    """Status, line, replies and report of a run, and the most memory that it took, in bytes."""
-    with tempfile.TemporaryDirectory() as folder:
-        files = {"snapshot": snapshot, "capture": capture, "replies": compare_replays.OLD_REPLIES}
-        if settings is not None:
-            files["settings"] = settings
-        for name, data in files.items():
-            with open(os.path.join(folder, name), "wb") as file:
-                file.write(data)
-        words = [program, "replay", *engine, *(word for name in files for word in ("--" + name, name))]
-        with open(os.path.join(folder, "out"), "wb+") as out, open(os.path.join(folder, "err"), "wb+") as err:
-            child = subprocess.Popen(
-                ["timeout", "--signal=KILL", str(SECONDS), *words],
-                cwd=folder,
-                stdin=subprocess.DEVNULL,
-                stdout=out,
-                stderr=err,
-            )
-            _, status, used = os.wait4(child.pid, 0)
-            child.returncode = os.waitstatus_to_exitcode(status)
-            out.seek(0)
-            err.seek(0)
-            with open(os.path.join(folder, "replies"), "rb") as replies:
-                answer = child.returncode, without_words(err.read()), replies.read(), out.read()
-        return answer, used.ru_maxrss * 1024
+class Limited(compare_replays.Comparison):
+    """A comparison whose replays have limits of time and memory, and the most memory that one took, in bytes."""
+
+    most = 0
+
+    def run_replay(self, words, *texts):
+        files = compare_replays.replay_files(*texts)
+        with tempfile.TemporaryDirectory() as folder:
+            put(folder, files)
+            told, peak = run_measured(self.program, ["replay", *words, *options(*files)], folder, SECONDS)
+            status, line, report = told
+            replies = contents(folder, "replies")
+        self.most = max(self.most, peak)
+        above = b"(%d bytes of memory) " % peak if peak > MEMORY else b""
+        return status, above + without_words(line), replies, report
 
 
 def main():
-    if not 2 <= len(sys.argv) <= 4:
-        sys.exit(__doc__)
-    program = os.path.abspath(sys.argv[1])
-    count, first = (int(word) for word in (sys.argv[2:] + ["100", "0"][len(sys.argv) - 2 :]))
-    wrong, most, ends = 0, 0, {}
-    comparison = compare_replays.Comparison(program)
-    for seed in range(first, first + count):
+    words = with_seeds(parser_of(__doc__), 100).parse_args()
+    comparison, ends = Limited(words.program), {}
+    for seed in range(words.first, words.first + words.count):
         texts = hostile_replay(seed)
-        status, line, replies, report = reference.replay(texts[0], texts[1], texts[2] or b"")
-        wanted = status, line, compare_replays.OLD_REPLIES if replies is None else replies, report
+        status, *_ = comparison.replay_as_reference("seed %d" % seed, *texts)
         ends[status] = ends.get(status, 0) + 1
-        for engine in compare_replays.ENGINES:
-            got, memory = run(program, engine, *texts)
-            most = max(most, memory)
-            found = compare_replays.difference(compare_replays.PARTS["replay"], wanted, got)
-            if found or memory > MEMORY:
-                wrong += 1
-                print(
-                    "seed %d %s: WRONG: %s" % (seed, " ".join(engine), found or "%d bytes of memory" % memory),
-                    flush=True,
-                )
         comparison.explain("seed %d" % seed, *texts)
-    text = ", ".join("%d with status %d" % (number, status) for status, number in sorted(ends.items()))
-    wrong += comparison.wrong
-    print("%d damaged inputs (%s), %d MiB at most, %d wrong" % (count, text, most >> 20, wrong))
-    return int(wrong > 0)
+    told = words.count, compare_replays.ends_text(ends), comparison.most >> 20
+    return comparison.end("%d damaged inputs (%s), %d MiB at most, {wrong} wrong" % told)
 
 
 if __name__ == "__main__":

@@ -17,10 +17,11 @@ import sys
 import tempfile
 import threading
 
-# The folder stays as it is.
-sys.dont_write_bytecode = True
-from program_parts import FIRST_LINE, HEADER, HEADER_TRAFFIC, PIECE, REJECTED, REPLY, REQUEST, SNAPSHOT, STATUSES, TIGHT
-from program_parts import Report, program_of
+from lib.report import Report
+from lib.run import options
+from lib.texts import HEADER, HEADER_TRAFFIC, REQUEST, SNAPSHOT
+from lib.usage import program_of
+from program_parts import FIRST_LINE, HEADING, PIECE, REJECTED, REPLY, STATUSES, TIGHT
 
 COUNT = 2**22 + 2
 LIMIT = 2**20
@@ -32,7 +33,6 @@ OPEN = (
     b"[policy]\nrate = 1000000000\nrate_min = 1000000000\nrate_max = 1000000000\nevery = %d\nwindow = 1\n"
     b"smoothing = 0\n" % EVERY
 )
-HEADING = b"number,connection,tick,tier,status,decision,service,credit,rate,start,finish,waited,method,target\n"
 ROW = b"%d,0,0,0,503,rejected,201,0,1000,,,201,GET,/a.txt\n"
 FIRST_ROW = b"0,0,0,0,200,admitted,201,1000000000,1000,0,201,0,GET,/a.txt\n"
 TOO_MANY = b"haboob: capture: message %d: TooMany\n" % LIMIT
@@ -135,7 +135,7 @@ def named(words, capture):
 def runs():
     """Each run: its name, its words, the parts of standard output and those of what it writes; the line of its
     fault."""
-    replay = ["replay", "--snapshot", "snapshot", "--capture", "traffic", "--replies", "pipe"]
+    replay = ["replay", *options("snapshot", capture="traffic", replies="pipe")]
     tight, once = ["--settings", "tight"], (1, (201, 201, 201), [])
     last, chain = [b"stop %d\n" % COUNT], itertools.chain
     for engine in ("plain", "staged"):
@@ -145,7 +145,7 @@ def runs():
     yield "replay: admitted", named(replay, "paced") + ["--settings", "open"], report_of_paced(), alike, b""
     away = chain([FIRST_LINE, REPLY % 0], numbered(REJECTED, 1, COUNT))
     yield "replay: cut", named(replay, "cut") + tight, [], away, CUT
-    explain = ["explain", "--snapshot", "snapshot", "--capture", "traffic", "--messages", "pipe", *tight]
+    explain = ["explain", *options("snapshot", capture="traffic", messages="pipe"), *tight]
     rows = chain([HEADING + FIRST_ROW], numbered(ROW, 1, COUNT))
     yield "explain", explain, report(*once), rows, b""
     within = chain([HEADING + FIRST_ROW], numbered(ROW, 1, LIMIT))

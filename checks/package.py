@@ -10,7 +10,6 @@ without its library says which package has it; what is removed leaves nothing. I
 lintian and what packaging/build.py needs; some minutes and 2 GB, which are given back. With --record a good run is
 written into checks/README.md, which package_run.py reads in the gate.
 """
-import argparse
 import filecmp
 import gzip
 import os
@@ -22,13 +21,13 @@ import sys
 import tempfile
 import time
 
-# The folder stays as it is.
-sys.dont_write_bytecode = True
+from lib import sources
+from lib.report import Report
+from lib.usage import parser_of
 import package_run
 from documents import commands_of, is_shown
-from program_parts import Report
 
-TOP = pathlib.Path(__file__).resolve().parent.parent
+TOP = pathlib.Path(sources.TOP)
 MIRROR, SUITE = "http://deb.debian.org/debian", "bookworm"
 PAGES = ("WALK.md", "POLICY.md", "FORMATS.md")
 DOC = "usr/share/doc/haboob"
@@ -320,7 +319,7 @@ def work(report, program, room):
 
 
 def main() -> int:
-    parser = argparse.ArgumentParser(description=__doc__, formatter_class=argparse.RawDescriptionHelpFormatter)
+    parser = parser_of(__doc__, runs_program=False)
     either = parser.add_mutually_exclusive_group()
     either.add_argument("--program", help="the program that goes into the package; without this the repository's")
     either.add_argument("--record", action="store_true", help="write a good run into checks/README.md")

@@ -2,7 +2,7 @@
 """Whether checks/package.py, which stands beside the gate, has run on the packaging, the tools and the command line as
 they are now.
 
-usage: package_run.py
+    checks/package_run.py
 
 checks/README.md has a line of the last good run, which `package.py --record` writes: its date and commit, and for each
 place the first digits of the name that git gives to what stands there. That name is the same in each commit that
@@ -10,14 +10,16 @@ changes nothing there, so the line holds in the commit that brings it in, and af
 each reason, where something else stands there now, or is in no commit yet. It needs no network. In a copy that is no
 clone nothing has such a name: it says so, with status 0.
 """
-import argparse
 import datetime
 import pathlib
 import re
 import subprocess
 import sys
 
-TOP = pathlib.Path(__file__).resolve().parent.parent
+from lib import sources
+from lib.usage import parser_of
+
+TOP = pathlib.Path(sources.TOP)
 PAGE = TOP / "checks" / "README.md"
 # What a hand-in touches that has to run the check; and the check itself.
 PLACES = ("packaging", "tools", "build", "crates/command_line/src", "checks/package.py")
@@ -99,7 +101,7 @@ def reasons(commit, then):
 
 
 def main() -> int:
-    argparse.ArgumentParser(description=__doc__, formatter_class=argparse.RawDescriptionHelpFormatter).parse_args()
+    parser_of(__doc__, runs_program=False).parse_args()
     if not (TOP / ".git").exists():
         print("no clone: what the last run of checks/package.py saw isn't compared")
         return 0

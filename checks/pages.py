@@ -12,7 +12,10 @@ import re
 import subprocess
 import sys
 
-TOP = os.path.dirname(os.path.dirname(os.path.abspath(__file__)))
+from lib.report import end
+from lib.sources import TOP, read
+from lib.usage import parser_of
+
 SPAN = re.compile(r"`([^`\n]+)`")
 NAME = re.compile(r"(?:\w+(?:::|\.))*\w+(?:\(\))?")
 FILE = re.compile(r"[\w.*/-]+\.(?:rt|antt|py|md|toml|txt|edit|sh|c)|"
@@ -34,11 +37,6 @@ def listed(*patterns):
     return [name for name in said.stdout.splitlines() if os.path.exists(os.path.join(TOP, name))]
 
 
-def read(name):
-    with open(os.path.join(TOP, name), encoding="utf-8", errors="replace") as file:
-        return file.read()
-
-
 def is_file(name, files, folder):
     """Whether a file or a folder of that name is there, seen from the page, from the top or from a crate's folder."""
     name = re.sub(r"\b(?:NAME|CRATE)\b", "*", name)
@@ -47,12 +45,13 @@ def is_file(name, files, folder):
 
 
 def main():
+    parser_of(__doc__, runs_program=False).parse_args()
     files = listed()
     pages = [name for name in files if name.endswith(".md")]
     words = set()
     for name in files:
         if not name.endswith((".md", ".capture", ".snapshot", "pages.py")):
-            words.update(re.findall(r"\w+", read(name)))
+            words.update(re.findall(r"\w+", read(name, errors="replace")))
     wrong, used = [], set()
     for page in pages:
         # (the keys of docs/PROMISES.md are names of its own)
@@ -71,8 +70,7 @@ def main():
             elif not known:
                 wrong.append("%s: no source has `%s`" % (page, span))
     wrong += ["OTHERS: no page needs %s" % name for name in sorted(OTHERS - used)]
-    print("\n".join(sorted(set(wrong)) + ["%d pages, %d wrong" % (len(pages), len(set(wrong)))]))
-    return int(bool(wrong))
+    return end(sorted(set(wrong)), "%d pages" % len(pages))
 
 
 if __name__ == "__main__":

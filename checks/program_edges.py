@@ -12,7 +12,6 @@ than those of low ones, and numbers of connections that have ended keep no memor
 What the machine doesn't allow (a C compiler, file systems of one's own) is not tried, and counted in the last line.
 """
 import fcntl
-import json
 import mmap
 import os
 import resource
@@ -24,26 +23,13 @@ import sys
 import tempfile
 import time
 
-# The folder stays as it is.
-sys.dont_write_bytecode = True
-from program_parts import (
-    FILES,
-    FIRST_RUN,
-    GOOD,
-    OLD,
-    OPEN_REPLIES,
-    OPEN_REPORT,
-    SECONDS,
-    Report,
-    contents,
-    first_files,
-    program_of,
-    snapshot_text,
-    without_words,
-)
-from worst_memory import RUNNER
+from lib import shim
+from lib.report import Report
+from lib.run import SECONDS, contents, limit, put, run, run_measured, without_words
+from lib.texts import REQUEST, SNAPSHOT, TIME, TRAFFIC, TWO, recording_text, snapshot_text
+from lib.usage import program_of
+from program_parts import FILES, FIRST_RUN, GOOD, OLD, OPEN_REPLIES, OPEN_REPORT, first_files
 
-HERE = os.path.dirname(os.path.abspath(__file__))
 SECRET = b"a byte of another file"
 # How often a file is swapped at least, and how many snapshots are made meanwhile.
 SWAPS, RACES = 1000, 200
@@ -62,10 +48,8 @@ def made(folder, plain=PLAIN):
     for name, data in plain.items():
         for top, text in ((b"tree", data), (b"other", SECRET)):
             path = os.path.join(os.fsencode(folder), top, name)
-            os.makedirs(os.path.dirname(path), exist_ok=True)
-            with open(path, "wb") as file:
-                file.write(text)
-            os.utime(path, (784111777, 784111777))
+            put(b"", {path: text})
+            os.utime(path, (TIME, TIME))
 
 
 def told(fault):
@@ -149,30 +133,12 @@ AT_CALLS = [
     ("a file grows when it is read", "/a", 1, True, "printf x >>tree/a", told(b"folder: Changed a")),
     ("a file shrinks", "/a", 1, True, "printf x >tree/a", told(b"folder: Changed a")),
     ("a file is written anew", "/a", 1, True, "sleep 0.1; printf other >tree/a", told(b"folder: Changed a")),
-    (
-        "a file is written anew, and gets its old time",
-        "/a",
-        1,
-        True,
-        "sleep 0.1; printf other >tree/a; touch -d @784111777 tree/a",
-        told(b"folder: Changed a"),
-    ),
-    (
-        "a folder becomes a link when it is listed",
-        "/d/",
-        1,
-        False,
-        "mv tree/d d; ln -s ../other/d tree/d",
-        told(b"folder: Changed d/"),
-    ),
-    (
-        "a folder becomes a link when a file in it is opened",
-        "/d/",
-        2,
-        False,
-        "mv tree/d d; ln -s ../other/d tree/d",
-        told(b"folder: Changed d/b"),
-    ),
+    ("a file is written anew, and gets its old time", "/a", 1, True,
+     "sleep 0.1; printf other >tree/a; touch -d @784111777 tree/a", told(b"folder: Changed a")),
+    ("a folder becomes a link when it is listed", "/d/", 1, False, "mv tree/d d; ln -s ../other/d tree/d",
+     told(b"folder: Changed d/")),
+    ("a folder becomes a link when a file in it is opened", "/d/", 2, False, "mv tree/d d; ln -s ../other/d tree/d",
+     told(b"folder: Changed d/b")),
 ]
 
 
@@ -185,53 +151,36 @@ ON_THE_WAY = [
     ("a folder is put elsewhere when it is left", "/../", 2, "mv tree/d/e kept", (0, b"")),
     ("the folder above it becomes another", "/../", 2, "mv tree/d kept; mv other/d tree/d", (0, b"")),
     ("the folder above it becomes a link to another", "/../", 2, "mv tree/d kept; ln -s ../other/d tree/d", (0, b"")),
-    (
-        "a folder is put elsewhere, and the one above it becomes another",
-        "/../",
-        2,
-        "mv tree/d/e kept; mv tree/d old; mv other/d tree/d",
-        told(b"folder: Changed d/f/x"),
-    ),
-    (
-        "a folder is put elsewhere, and the one above it goes away",
-        "/../",
-        2,
-        "mv tree/d/e kept; mv tree/d old",
-        told(b"read: folder d/f/x"),
-    ),
+    ("a folder is put elsewhere, and the one above it becomes another", "/../", 2,
+     "mv tree/d/e kept; mv tree/d old; mv other/d tree/d", told(b"folder: Changed d/f/x")),
+    ("a folder is put elsewhere, and the one above it goes away", "/../", 2, "mv tree/d/e kept; mv tree/d old",
+     told(b"read: folder d/f/x")),
 ]
 
 
-def attacked(program, shim, folder, name, opening, is_at_read, command):
+def attacked(program, attacker, folder, name, opening, is_at_read, command):
     """Status, line and output of a snapshot of a folder that is made, with a command at a call."""
-    world = {**os.environ, "LD_PRELOAD": shim, "NAME": name, "OPENING": str(opening), "ATTACK": command}
-    if is_at_read:
-        world["READING"] = "1"
-    words = ["snapshot", "--folder", "tree", "--output", "output"]
-    how = {"cwd": folder, "env": world, "stdin": subprocess.DEVNULL, "stderr": subprocess.PIPE}
-    got = ended(subprocess.Popen([program, *words], **how))
-    return (*got, contents(os.path.join(folder, "output")))
+    world = shim.world(attacker, NAME=name, OPENING=opening, ATTACK=command, **({"READING": 1} if is_at_read else {}))
+    got = run(program, ["snapshot", "--folder", "tree", "--output", "output"], folder, env=world)[:2]
+    return (*got, contents(folder, "output"))
 
 
 def check_at_calls(report, program):
     """Whether there is a compiler for the attacks."""
-    compiler = shutil.which(os.environ.get("CC", "cc"))
-    if compiler is None:
-        return False
     with tempfile.TemporaryDirectory() as room:
-        shim = os.path.join(room, "attack.so")
-        source = os.path.join(HERE, "attack.c")
-        subprocess.run([compiler, "-shared", "-fPIC", "-O1", "-o", shim, source, "-ldl"], check=True)
+        attacker = shim.built("attack", room)
+        if attacker is None:
+            return False
         for name, path, opening, is_at_read, command, wanted in AT_CALLS:
             with tempfile.TemporaryDirectory() as folder:
                 made(folder)
-                got = attacked(program, shim, folder, path, opening, is_at_read, command)
+                got = attacked(program, attacker, folder, path, opening, is_at_read, command)
             report.see_told("at a call: " + name, got[:2] == wanted and SECRET not in got[2], got)
         whole = snapshot_text(sorted(BELOW.items()))
         for name, path, opening, command, wanted in ON_THE_WAY:
             with tempfile.TemporaryDirectory() as folder:
                 made(folder, BELOW)
-                got = attacked(program, shim, folder, path, opening, False, command)
+                got = attacked(program, attacker, folder, path, opening, False, command)
             good = got[:2] == wanted and SECRET not in got[2] and (wanted[0] != 0 or got[2] == whole)
             report.see_told("on the way: " + name, good, got)
     return True
@@ -283,11 +232,10 @@ def check_races(report, program):
         with tempfile.TemporaryDirectory() as folder:
             made(folder)
             child, count = swapping(folder, swap)
-            output = os.path.join(folder, "output")
-            words = [program, "snapshot", "--folder", "tree", "--output", "output"]
+            words = ["snapshot", "--folder", "tree", "--output", "output"]
             while (sum(ends.values()) < RACES or count[0] < SWAPS) and is_running(child):
-                got = ended(subprocess.Popen(words, cwd=folder, stdin=subprocess.DEVNULL, stderr=subprocess.PIPE))
-                text = contents(output)
+                got = run(program, words, folder)[:2]
+                text = contents(folder, "output")
                 ends[got[0]] = ends.get(got[0], 0) + 1
                 if got[0] not in (0, 4, 6) or SECRET in text or (got[0] == 0 and text not in (WHOLE, OTHERS)):
                     wrong.append((*got, text))
@@ -300,21 +248,17 @@ def check_races(report, program):
 def check_unknown_lengths(report, program):
     """Files that tell of no bytes and have some, and one that tells of more than it may have."""
     with tempfile.TemporaryDirectory() as folder:
-        output = os.path.join(folder, "output")
-        words = [program, "snapshot", "--folder", "/proc/sys/kernel/random", "--output", output]
-        ran = subprocess.run(words, capture_output=True, timeout=SECONDS)
-        got = ran.returncode, ran.stderr, contents(output)
+        words = ["snapshot", "--output", "output", "--folder", "/proc/sys/kernel/random"]
+        got = (*run(program, words, folder)[:2], contents(folder, "output"))
         report.see_told("a length of 0 with bytes", got == (*told(b"folder: Changed boot_id"), first_files([])), got)
-        ran = subprocess.run([*words, "--skip"], capture_output=True, timeout=SECONDS)
-        first, *_, last = ran.stderr.splitlines() or [b""]
-        got = ran.returncode, first, last[:16], contents(output)
+        status, lines, _ = run(program, [*words, "--skip"], folder)
+        first, *_, last = lines.splitlines() or [b""]
+        got = status, first, last[:16], contents(folder, "output")
         wanted = 0, b"haboob: folder: Changed boot_id", b"haboob: skipped ", snapshot_text([])
         report.see_told("the same, skipped", got == wanted, got)
         made(folder)
         os.truncate(os.path.join(folder, "tree", "a"), 1 << 40)
-        words[3] = "tree"
-        ran = subprocess.run(words, cwd=folder, capture_output=True, timeout=SECONDS)
-        got = ran.returncode, ran.stderr, contents(output)
+        got = (*run(program, [*words[:-1], "tree"], folder)[:2], contents(folder, "output"))
         report.see_told("a sparse file of a TiB", got == (*told(b"folder: Size a"), first_files([])), got)
 
 
@@ -340,17 +284,13 @@ CLASHES = [
 def clash(program, folder, name, words):
     """Status and line of a run with this file as standard output, and the files that it changed."""
     files = {**FILES, "replies": OLD, "first": FIRST_RUN}
-    for one, data in files.items():
-        with open(os.path.join(folder, one), "wb") as file:
-            file.write(data)
+    put(folder, files)
     os.link(os.path.join(folder, "replies"), os.path.join(folder, "twin of replies"))
     with open(os.path.join(folder, name), "ab") as out, open(os.path.join(folder, "first"), "rb") as given:
-        ran = subprocess.run(
-            [program, *words], cwd=folder, stdin=given, stdout=out, stderr=subprocess.PIPE, timeout=SECONDS
-        )
-    changed = [one for one, data in files.items() if contents(os.path.join(folder, one)) != data]
+        status, line, _ = run(program, words, folder, stdin=given, stdout=out)
+    changed = [one for one, data in files.items() if contents(folder, one) != data]
     changed += ["new"] * os.path.exists(os.path.join(folder, "new"))
-    return ran.returncode, without_words(ran.stderr), changed
+    return status, without_words(line), changed
 
 
 def check_clashes(report, program):
@@ -360,7 +300,7 @@ def check_clashes(report, program):
         report.see_told("%s into %s" % (" ".join(words[:1]), name), got == (6, line, []), got)
     with tempfile.TemporaryDirectory() as folder:
         got = clash(program, folder, "other", ["replay", *GOOD])
-        texts = contents(os.path.join(folder, "replies")), contents(os.path.join(folder, "other"))
+        texts = contents(folder, "replies"), contents(folder, "other")
     good = got == (0, b"", ["replies"]) and texts == (OPEN_REPLIES, OPEN_REPORT)
     report.see_told("replay into another file", good, (*got, texts))
 
@@ -384,17 +324,17 @@ def second_run(program, folder):
     """What comes of a replay into the output of one that still reads its capture, a pipe; and of that one."""
     os.mkfifo(os.path.join(folder, "pipe"))
     replies = os.path.join(os.path.realpath(folder), "replies")
-    words = [program, "replay", *GOOD]
-    first = subprocess.Popen([*words[:5], "pipe", *words[6:]], cwd=folder, stdin=subprocess.DEVNULL,
+    words = ["replay", *GOOD]
+    first = subprocess.Popen([program, *words[:4], "pipe", *words[5:]], cwd=folder, stdin=subprocess.DEVNULL,
                              stdout=subprocess.PIPE, stderr=subprocess.PIPE)
     with open(os.path.join(folder, "pipe"), "wb") as pipe:
         while first.poll() is None and not has_open(first, replies):
             time.sleep(0.01)
         time.sleep(0.1)  # it locks its output once it has opened it
-        second = subprocess.run(words, cwd=folder, stdin=subprocess.DEVNULL, capture_output=True, timeout=SECONDS)
+        status, told, _ = run(program, words, folder)
         pipe.write(FILES["capture"])
     text, line = first.communicate(timeout=SECONDS)
-    return (second.returncode, without_words(second.stderr)), (first.returncode, line, text, contents(replies))
+    return (status, without_words(told)), (first.returncode, line, text, contents(replies))
 
 
 def check_locked(report, program):
@@ -404,8 +344,8 @@ def check_locked(report, program):
             shell(program, folder, "cp output replies")
             with open(os.path.join(folder, name), "rb") as held:
                 fcntl.flock(held, fcntl.LOCK_EX)
-                ran = subprocess.run([program, *words], cwd=folder, capture_output=True, timeout=SECONDS)
-            got = ran.returncode, without_words(ran.stderr), contents(os.path.join(folder, name))
+                status, told, _ = run(program, words, folder)
+            got = status, without_words(told), contents(folder, name)
         report.see_told("an output that is locked: " + words[0], got == (6, line, OLD), got)
     with tempfile.TemporaryDirectory() as folder:
         shell(program, folder, "cp output replies")
@@ -416,12 +356,10 @@ def check_locked(report, program):
 
 def shell(program, folder, command):
     """The status of a shell's command in a folder with the files of a replay and a tree; `$haboob` is the program."""
-    for name, data in {**FILES, "output": OLD}.items():
-        with open(os.path.join(folder, name), "wb") as file:
-            file.write(data)
+    put(folder, {**FILES, "output": OLD})
     made(folder)
-    world = {**os.environ, "haboob": program}
-    return subprocess.run(["sh", "-c", command], cwd=folder, env=world, timeout=SECONDS).returncode
+    inherited = {"stdin": None, "stdout": None, "stderr": None}
+    return run("sh", ["-c", command], folder, env={**os.environ, "haboob": program}, **inherited)[0]
 
 
 # A command with standard devices closed or full, and then the status and what stands in the file `output`.
@@ -444,33 +382,20 @@ def check_devices(report, program):
     for name, command, status, wanted in DEVICES:
         with tempfile.TemporaryDirectory() as folder:
             got = shell(program, folder, "{ " + command + "; } 2>/dev/null" if "2>" not in command else command)
-            text = without_words(contents(os.path.join(folder, "output")))
+            text = without_words(contents(folder, "output"))
         report.see("devices: " + name, (got, text) == (status, wanted), (got, text))
-
-
-def limited():
-    resource.setrlimit(resource.RLIMIT_FSIZE, (LIMIT, LIMIT))
 
 
 def check_limit(report, program):
     """A limit of a file's size: its signal ends the program; where that is ignored, a write fails."""
-    for name, is_default, wanted in (
-        ("the signal", True, (-signal.SIGXFSZ, b"")),
-        ("ignored", False, (6, b"haboob: write: replies\n")),
-    ):
+    for name, is_default, wanted in (("the signal", True, (-signal.SIGXFSZ, b"")),
+                                     ("ignored", False, (6, b"haboob: write: replies\n"))):
         with tempfile.TemporaryDirectory() as folder:
             shell(program, folder, "true")
             # Python ignores the signal, and a process that it starts does so unless it is asked for the default.
-            ran = subprocess.run(
-                [program, "replay", *GOOD],
-                cwd=folder,
-                stdin=subprocess.DEVNULL,
-                capture_output=True,
-                timeout=SECONDS,
-                preexec_fn=limited,
-                restore_signals=is_default,
-            )
-            got = ran.returncode, ran.stderr, contents(os.path.join(folder, "replies"))
+            status, line, _ = run(program, ["replay", *GOOD], folder, restore_signals=is_default,
+                                  preexec_fn=limit(resource.RLIMIT_FSIZE, LIMIT))
+            got = status, line, contents(folder, "replies")
         report.see_told("a limit of file size: " + name, got == (*wanted, OPEN_REPLIES[:LIMIT]), got)
 
 
@@ -492,16 +417,9 @@ def check_descriptors(report, program):
     for most in OPEN_FILES:
         with tempfile.TemporaryDirectory() as folder:
             shell(program, folder, "true")
-            ran = subprocess.run(
-                [program, "snapshot", "--folder", "tree", "--output", "output", "--skip"],
-                cwd=folder,
-                stdin=subprocess.DEVNULL,
-                capture_output=True,
-                timeout=SECONDS,
-                preexec_fn=lambda: resource.setrlimit(resource.RLIMIT_NOFILE, (most, most)),
-            )
-            told = without_words(ran.stderr)
-            every.append((ran.returncode, told, contents(os.path.join(folder, "output"))))
+            status, told, _ = run(program, ["snapshot", "--folder", "tree", "--output", "output", "--skip"], folder,
+                                  preexec_fn=limit(resource.RLIMIT_NOFILE, most))
+            every.append((status, without_words(told), contents(folder, "output")))
         report.see_told("%d open files" % most, every[-1] == NONE_LEFT_OUT or is_cut(every[-1]), every[-1])
     reading = [got for got in every if is_cut(got) and got[2] != OLD]
     report.see("open files: a fault at the listing, at a file", is_cut(every[0]) and reading, every)
@@ -510,28 +428,21 @@ def check_descriptors(report, program):
 
 # Requests one after another, each on a connection of its own.
 REQUESTS = 1500
-REQUEST = b"GET /a.txt HTTP/1.1\r\nHost: a\r\n\r\n"
 SINGLY = b"[floor]\nbatch = 1\n[policy]\ndepth = 1000000\nrate = 1000000000\nrate_max = 1000000000\n"
 TURNS, MOST_TIMES = 3, 4
 
 
 def capture_from(first):
     """A capture of requests on connections from this number on."""
-    pieces = (b"piece %d %d %d\n%s\n" % (tick, first + tick, len(REQUEST), REQUEST) for tick in range(REQUESTS))
-    return b"haboob-capture 2 784111777\n" + b"".join(pieces) + b"stop %d\n" % REQUESTS
+    return recording_text([(tick, first + tick, REQUEST) for tick in range(REQUESTS)], TWO)
 
 
 def processor_seconds(program, folder, capture):
-    """The status of a staged replay by batches of one piece (None where it takes too long), and its processor time,
-    which load doesn't change much."""
+    """The status of a staged replay by batches of one piece, and its processor time, which load doesn't change much."""
     before = resource.getrusage(resource.RUSAGE_CHILDREN)
     words = ["replay", "--snapshot", "snapshot", "--capture", capture, "--replies", "/dev/null", "--settings", "singly",
              "--engine", "staged"]
-    try:
-        status = subprocess.run([program, *words], cwd=folder, stdin=subprocess.DEVNULL, stdout=subprocess.DEVNULL,
-                                timeout=SECONDS * 3).returncode
-    except subprocess.TimeoutExpired:
-        status = None
+    status = run(program, words, folder, SECONDS * 3)[0]
     after = resource.getrusage(resource.RUSAGE_CHILDREN)
     return status, after.ru_utime + after.ru_stime - before.ru_utime - before.ru_stime
 
@@ -540,11 +451,8 @@ def check_high_numbers(report, program):
     """Seats of connections that sent nothing cost a batch nothing: by turns, with low and with the highest numbers."""
     took = {"low": [], "high": []}
     with tempfile.TemporaryDirectory() as folder:
-        files = {"snapshot": FILES["snapshot"], "singly": SINGLY, "low": capture_from(0),
-                 "high": capture_from(65536 - REQUESTS)}
-        for name, data in files.items():
-            with open(os.path.join(folder, name), "wb") as file:
-                file.write(data)
+        put(folder, {"snapshot": SNAPSHOT, "singly": SINGLY, "low": capture_from(0),
+                     "high": capture_from(65536 - REQUESTS)})
         for name in ("low", "high") * TURNS:
             if all(status == 0 for runs in took.values() for status, _ in runs):
                 took[name].append(processor_seconds(program, folder, name))
@@ -554,30 +462,26 @@ def check_high_numbers(report, program):
 
 
 # Connections that come one after another, and how many bytes each number may cost for good.
-LIVES, MOST_LEFT = 65_535, 64
+LIVES, MOST_LEFT = 65_535, 80
 
 
 def peak_of(program, folder, capture, engine):
     """The status of a replay, and the most memory that it had, in bytes."""
     words = ["replay", "--snapshot", "snapshot", "--capture", capture, "--replies", "/dev/null", "--engine", engine]
-    ran = subprocess.run([sys.executable, "-c", RUNNER, program, *words], cwd=folder, stdin=subprocess.DEVNULL,
-                         stdout=subprocess.DEVNULL, stderr=subprocess.PIPE, timeout=SECONDS * 6)
-    return tuple(json.loads(ran.stderr.splitlines()[-1]))
+    (status, *_), peak = run_measured(program, words, folder, SECONDS * 6)
+    return status, peak
 
 
 def lives_of(step):
     """A traffic text of connections one after another, each with a request, on numbers that rise by this step."""
-    lives = (b"piece 0 %d %d\n%s\nend 0 %d\n" % (number, len(REQUEST), REQUEST, number)
-             for number in (step * place for place in range(LIVES)))
-    return b"haboob-traffic 1 784111777\n%bstop %d\n" % (b"".join(lives), 2 * LIVES)
+    numbers = [step * place for place in range(LIVES)]
+    return recording_text([record for number in numbers for record in ((0, number, REQUEST), (0, number))], TRAFFIC)
 
 
 def check_ended_numbers(report, program):
     """A number whose connection has ended costs next to nothing: many numbers, and as often the same one."""
     with tempfile.TemporaryDirectory() as folder:
-        for name, data in (("snapshot", FILES["snapshot"]), ("many", lives_of(1)), ("one", lives_of(0))):
-            with open(os.path.join(folder, name), "wb") as file:
-                file.write(data)
+        put(folder, {"snapshot": SNAPSHOT, "many": lives_of(1), "one": lives_of(0)})
         for engine in ("plain", "staged"):
             got = [peak_of(program, folder, name, engine) for name in ("many", "one")]
             (first, many), (second, one) = got
@@ -618,7 +522,7 @@ def check_equal_numbers(report, program, words):
     name = "equal inode numbers on two file systems"
     with tempfile.TemporaryDirectory() as folder:
         got = run_mounted(program, folder, words, TWO_DISKS)
-        text = contents(os.path.join(folder, "output"))
+        text = contents(folder, "output")
     if got == 98:
         report.leave(name, "the system numbers the files of all file systems of memory together")
         return
@@ -636,8 +540,7 @@ def check_without_proc(report, program, words):
 
 
 def main():
-    program = program_of(__doc__)
-    report = Report()
+    program, report = program_of(__doc__), Report()
     check_between(report, program)
     if not check_at_calls(report, program):
         report.leave("attacks at a call", "no C compiler")

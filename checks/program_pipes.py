@@ -13,36 +13,18 @@ import tempfile
 import threading
 import time
 
-# The folder stays as it is.
-sys.dont_write_bytecode = True
-from program_parts import (
-    CLOSING,
-    FIRST_LINE,
-    FIRST_RUN,
-    HEADER,
-    HEADER_TRAFFIC,
-    ONE,
-    PIECE,
-    REPLIES,
-    REPLY,
-    REQUEST,
-    SECONDS,
-    SNAPSHOT,
-    Report,
-    program_of,
-)
+from lib.report import Report
+from lib.run import SECONDS, contents, limit, options, put, run
+from lib.texts import CLOSING, HEADER, HEADER_TRAFFIC, HEADER_TWO, REQUEST, SNAPSHOT, recording_text
+from lib.usage import program_of
+from program_parts import FIRST_LINE, FIRST_RUN, ONE, PIECE, REPLIES, REPLY
 
 # The memory that a run has where it is to have little, in bytes: less than the file that its snapshot announces.
 MEMORY = 16_000_000
 
 
-def long_run(count):
-    """A run whose replies are more than any buffer or pipe holds."""
-    pieces = b"".join(b"piece %d %d 32\n" % (number, number % 100) + REQUEST + b"\n" for number in range(count))
-    return SNAPSHOT + HEADER + pieces + b"stop %d\n" % count
-
-
-LONG = long_run(5000)
+# A run whose replies are more than any buffer or pipe holds.
+LONG = recording_text([(number, number % 100, REQUEST) for number in range(5000)])
 
 # How the input comes: its bytes from a pipe, from a file, slowly byte by byte; or a directory, or nothing at all.
 # How the replies go: into a pipe that is read, a file, a full device, a pipe that nobody reads, nowhere.
@@ -56,136 +38,45 @@ TABLE = [
     ("empty input from a pipe", "pipe", b"", "pipe", 4, b"haboob: snapshot: entry 0: Cut\n", b""),
     ("empty input from a file", "file", b"", "file", 4, b"haboob: snapshot: entry 0: Cut\n", b""),
     ("another header", "pipe", b"haboob-snapshot 2\nend 0\n", "pipe", 4, b"haboob: snapshot: entry 0: Header\n", b""),
-    (
-        "names out of order",
-        "pipe",
-        b"haboob-snapshot 1\nfile 0 1 0\nb\n\nfile 0 1 0\na\n\nend 2\n",
-        "pipe",
-        4,
-        b"haboob: snapshot: entry 2: Order\n",
-        b"",
-    ),
-    (
-        "a name in a file",
-        "pipe",
-        b"haboob-snapshot 1\nfile 0 1 0\na\n\nfile 0 3 0\na/b\n\nend 2\n",
-        "pipe",
-        4,
-        b"haboob: snapshot: entry 2: Conflict\n",
-        b"",
-    ),
-    (
-        "a bad name",
-        "pipe",
-        b"haboob-snapshot 1\nfile 0 4 0\na//b\n\nend 1\n",
-        "pipe",
-        4,
-        b"haboob: snapshot: entry 1: Name\n",
-        b"",
-    ),
-    (
-        "another count of files",
-        "pipe",
-        b"haboob-snapshot 1\nfile 0 1 0\na\n\nend 2\n",
-        "pipe",
-        4,
-        b"haboob: snapshot: entry 2: Count\n",
-        b"",
-    ),
+    ("names out of order", "pipe", b"haboob-snapshot 1\nfile 0 1 0\nb\n\nfile 0 1 0\na\n\nend 2\n", "pipe", 4,
+     b"haboob: snapshot: entry 2: Order\n", b""),
+    ("a name in a file", "pipe", b"haboob-snapshot 1\nfile 0 1 0\na\n\nfile 0 3 0\na/b\n\nend 2\n", "pipe", 4,
+     b"haboob: snapshot: entry 2: Conflict\n", b""),
+    ("a bad name", "pipe", b"haboob-snapshot 1\nfile 0 4 0\na//b\n\nend 1\n", "pipe", 4,
+     b"haboob: snapshot: entry 1: Name\n", b""),
+    ("another count of files", "pipe", b"haboob-snapshot 1\nfile 0 1 0\na\n\nend 2\n", "pipe", 4,
+     b"haboob: snapshot: entry 2: Count\n", b""),
     ("a snapshot cut", "pipe", SNAPSHOT[:-1], "pipe", 4, b"haboob: snapshot: entry 2: Cut\n", b""),
     ("a long line", "pipe", b"x" * 65, "pipe", 4, b"haboob: snapshot: entry 0: Header\n", b""),
     ("nothing after the snapshot", "pipe", SNAPSHOT, "pipe", 5, b"haboob: capture: record 0: Cut\n", FIRST_LINE),
-    (
-        "another capture",
-        "pipe",
-        SNAPSHOT + b"haboob-capture 3 0\n",
-        "pipe",
-        5,
-        b"haboob: capture: record 0: Header\n",
-        FIRST_LINE,
-    ),
+    ("another capture", "pipe", SNAPSHOT + b"haboob-capture 3 0\n", "pipe", 5, b"haboob: capture: record 0: Header\n",
+     FIRST_LINE),
     ("no last line", "file", SNAPSHOT + HEADER + PIECE, "file", 5, b"haboob: capture: record 2: Cut\n", ONE),
-    (
-        "another count of records",
-        "pipe",
-        SNAPSHOT + HEADER + PIECE + b"stop 2\n",
-        "pipe",
-        5,
-        b"haboob: capture: record 2: Count\n",
-        ONE,
-    ),
+    ("another count of records", "pipe", SNAPSHOT + HEADER + PIECE + b"stop 2\n", "pipe", 5,
+     b"haboob: capture: record 2: Count\n", ONE),
     ("a byte after", "pipe", FIRST_RUN + b".", "pipe", 5, b"haboob: capture: record 2: Trailing\n", ONE),
-    (
-        "ticks that fall",
-        "pipe",
-        SNAPSHOT + HEADER + PIECE.replace(b"piece 0", b"piece 7") + PIECE,
-        "pipe",
-        5,
-        b"haboob: capture: record 2: Tick\n",
-        ONE,
-    ),
-    (
-        "a piece after an end",
-        "pipe",
-        SNAPSHOT + HEADER + b"end 0 0\n" + PIECE,
-        "pipe",
-        5,
-        b"haboob: capture: record 2: Ended\n",
-        FIRST_LINE,
-    ),
-    (
-        "a connection too high",
-        "pipe",
-        SNAPSHOT + HEADER + b"piece 0 4096 1\nx\n",
-        "pipe",
-        5,
-        b"haboob: capture: record 1: Connection\n",
-        FIRST_LINE,
-    ),
-    (
-        "a tier too high",
-        "pipe",
-        SNAPSHOT + b"haboob-capture 2 0\ntier 0 4\n",
-        "pipe",
-        5,
-        b"haboob: capture: record 1: Tier\n",
-        FIRST_LINE,
-    ),
-    (
-        "a tier after a piece",
-        "pipe",
-        SNAPSHOT + HEADER.replace(b"capture 1", b"capture 2") + PIECE + b"tier 0 1\n",
-        "pipe",
-        5,
-        b"haboob: capture: record 2: Tier\n",
-        ONE,
-    ),
-    (
-        "a tier in version 1",
-        "pipe",
-        SNAPSHOT + HEADER + b"tier 0 1\n",
-        "pipe",
-        5,
-        b"haboob: capture: record 1: Kind\n",
-        FIRST_LINE,
-    ),
-    (
-        "a piece of no bytes",
-        "pipe",
-        SNAPSHOT + HEADER + b"piece 0 0 0\n\n",
-        "pipe",
-        5,
-        b"haboob: capture: record 1: Length\n",
-        FIRST_LINE,
-    ),
+    ("ticks that fall", "pipe", SNAPSHOT + HEADER + PIECE.replace(b"piece 0", b"piece 7") + PIECE, "pipe", 5,
+     b"haboob: capture: record 2: Tick\n", ONE),
+    ("a piece after an end", "pipe", SNAPSHOT + HEADER + b"end 0 0\n" + PIECE, "pipe", 5,
+     b"haboob: capture: record 2: Ended\n", FIRST_LINE),
+    ("a connection too high", "pipe", SNAPSHOT + HEADER + b"piece 0 4096 1\nx\n", "pipe", 5,
+     b"haboob: capture: record 1: Connection\n", FIRST_LINE),
+    ("a tier too high", "pipe", SNAPSHOT + b"haboob-capture 2 0\ntier 0 4\n", "pipe", 5,
+     b"haboob: capture: record 1: Tier\n", FIRST_LINE),
+    ("a tier after a piece", "pipe", SNAPSHOT + HEADER_TWO + PIECE + b"tier 0 1\n",
+     "pipe", 5, b"haboob: capture: record 2: Tier\n", ONE),
+    ("a tier in version 1", "pipe", SNAPSHOT + HEADER + b"tier 0 1\n", "pipe", 5, b"haboob: capture: record 1: Kind\n",
+     FIRST_LINE),
+    ("a piece of no bytes", "pipe", SNAPSHOT + HEADER + b"piece 0 0 0\n\n", "pipe", 5,
+     b"haboob: capture: record 1: Length\n", FIRST_LINE),
     ("a directory as input", "directory", b"", "pipe", 6, b"haboob: read: snapshot\n", b""),
     ("no input", "closed", b"", "pipe", 6, b"haboob: read: snapshot\n", b""),
     ("a full device", "pipe", FIRST_RUN, "full", 6, b"haboob: write: replies\n", None),
-    ("a full device, and a long run", "file", LONG, "full", 6, b"haboob: write: replies\n", None),
+    ("a full device, and a long run", "file", SNAPSHOT + LONG, "full", 6, b"haboob: write: replies\n", None),
     ("a full device, and a fault of the capture", "pipe", SNAPSHOT, "full", 6, b"haboob: write: replies\n", None),
     ("a full device, and a fault of the snapshot", "pipe", b"", "full", 4, b"haboob: snapshot: entry 0: Cut\n", None),
     ("a closed pipe", "pipe", FIRST_RUN, "dead", 6, b"haboob: write: replies\n", None),
-    ("a closed pipe, and a long run", "file", LONG, "dead", 6, b"haboob: write: replies\n", None),
+    ("a closed pipe, and a long run", "file", SNAPSHOT + LONG, "dead", 6, b"haboob: write: replies\n", None),
     ("no output", "pipe", FIRST_RUN, "closed", 6, b"haboob: write: replies\n", None),
 ]
 
@@ -213,37 +104,22 @@ TRAFFIC_TABLE = [
         + REPLY % 1
         + b"stop 2\n",
     ),
-    (
-        "a message that closes, and a further connection",
-        HEADER_TRAFFIC + b"piece 0 0 83\n" + CLOSING + REQUEST + b"\n" + PIECE + END + PIECE + b"stop 4\n",
-        "",
-        FIRST_LINE + CLOSED + REPLY % 1 + b"stop 2\n",
-    ),
-    (
-        "the last number",
-        HEADER_TRAFFIC + PIECE.replace(b" 0 0 ", b" 0 65535 ") + b"stop 1\n",
-        "",
-        REPLIES.replace(b"reply 0 0 ", b"reply 0 65535 "),
-    ),
+    ("a message that closes, and a further connection",
+     HEADER_TRAFFIC + b"piece 0 0 83\n" + CLOSING + REQUEST + b"\n" + PIECE + END + PIECE + b"stop 4\n", "",
+     FIRST_LINE + CLOSED + REPLY % 1 + b"stop 2\n"),
+    ("the last number", HEADER_TRAFFIC + PIECE.replace(b" 0 0 ", b" 0 65535 ") + b"stop 1\n", "",
+     REPLIES.replace(b"reply 0 0 ", b"reply 0 65535 ")),
     ("a piece of number 65,536", HEADER_TRAFFIC + b"piece 0 65536 1\nx\n", "record 1: Connection", FIRST_LINE),
     ("an end of number 65,536", HEADER_TRAFFIC + b"end 0 65536\n", "record 1: Connection", FIRST_LINE),
     ("a tier of number 65,536", HEADER_TRAFFIC + b"tier 65536 4\n", "record 1: Connection", FIRST_LINE),
     ("a tier after a piece", HEADER_TRAFFIC + PIECE + b"tier 0 1\n", "record 2: Tier", ONE),
-    (
-        "a tier after a piece of a second life",
-        HEADER_TRAFFIC + PIECE + END + PIECE + b"tier 0 1\n",
-        "record 4: Tier",
-        ONE + REPLY % 1,
-    ),
+    ("a tier after a piece of a second life", HEADER_TRAFFIC + PIECE + END + PIECE + b"tier 0 1\n", "record 4: Tier",
+     ONE + REPLY % 1),
     ("a tier after a tier", HEADER_TRAFFIC + b"tier 0 1\ntier 0 1\n", "record 2: Tier", FIRST_LINE),
     ("a tier above 3", HEADER_TRAFFIC + END + b"tier 0 4\n", "record 2: Tier", FIRST_LINE),
     ("a tier after an end", HEADER_TRAFFIC + PIECE + END + b"tier 0 1\n" + PIECE + b"stop 4\n", "", TWO),
-    (
-        "tiers of two lives, one without a piece",
-        HEADER_TRAFFIC + b"tier 0 1\n" + END + b"tier 0 2\n" + PIECE + END + b"tier 0 3\n" + PIECE + b"stop 7\n",
-        "",
-        TWO,
-    ),
+    ("tiers of two lives, one without a piece",
+     HEADER_TRAFFIC + b"tier 0 1\n" + END + b"tier 0 2\n" + PIECE + END + b"tier 0 3\n" + PIECE + b"stop 7\n", "", TWO),
     ("a tick lower than that of an end", HEADER_TRAFFIC + b"end 5 0\n" + PIECE, "record 2: Tick", FIRST_LINE),
     ("an end lower than a piece", HEADER_TRAFFIC + b"piece 5 1 1\nG\n" + END, "record 2: Tick", FIRST_LINE),
     ("a tick above the limit", HEADER_TRAFFIC + b"end 1000000000000001 65536\n", "record 1: Tick", FIRST_LINE),
@@ -304,10 +180,8 @@ def open_input(kind, data, folder):
         return os.open(folder, os.O_RDONLY), None
     if kind == "closed":
         return None, None
-    name = os.path.join(folder, "input")
-    with open(name, "wb") as file:
-        file.write(data)
-    return os.open(name, os.O_RDONLY), None
+    put(folder, {"input": data})
+    return os.open(os.path.join(folder, "input"), os.O_RDONLY), None
 
 
 def open_output(kind, folder):
@@ -336,17 +210,12 @@ def close_in_child(given, taken):
     return close
 
 
-def run(program, given, data, taken, folder):
+def run_on(program, given, data, taken, folder):
     """The status, the line on standard error and the replies of one run."""
     stdin, feeder = open_input(given, data, folder)
     stdout, name = open_output(taken, folder)
-    child = subprocess.Popen(
-        [program],
-        stdin=subprocess.DEVNULL if stdin is None else stdin,
-        stdout=stdout,
-        stderr=subprocess.PIPE,
-        preexec_fn=close_in_child(given, taken),
-    )
+    child = subprocess.Popen([program], stdin=subprocess.DEVNULL if stdin is None else stdin, stdout=stdout,
+                             stderr=subprocess.PIPE, preexec_fn=close_in_child(given, taken))
     for device in (stdin, stdout):
         if device is not None and device >= 0:
             os.close(device)
@@ -360,33 +229,7 @@ def run(program, given, data, taken, folder):
         line = b"(it hangs) " + line
     if feeder:
         feeder.join()
-    if name:
-        with open(name, "rb") as file:
-            replies = file.read()
-    return child.returncode, line, replies
-
-
-def silent_error(program):
-    """The status, with a fault of the snapshot, where standard error can't be written."""
-    with open("/dev/full", "wb") as full:
-        child = subprocess.Popen([program], stdin=subprocess.DEVNULL, stdout=subprocess.DEVNULL, stderr=full)
-        return child.wait(timeout=SECONDS)
-
-
-def little_memory(program):
-    """The status and the line where there is no memory for the file that the snapshot announces."""
-
-    def limit():
-        resource.setrlimit(resource.RLIMIT_AS, (MEMORY, MEMORY))
-
-    child = subprocess.run(
-        [program],
-        input=b"haboob-snapshot 1\nfile 0 1 16777216\na\n",
-        capture_output=True,
-        preexec_fn=limit,
-        timeout=SECONDS,
-    )
-    return child.returncode, child.stderr, child.stdout
+    return child.returncode, line, contents(name) if name else replies
 
 
 def cut_anywhere():
@@ -407,13 +250,10 @@ SHOWN = re.compile(rb"(?:\r\x1b\[Khaboob: \d{1,2}% read, \d+ s left)+\r\x1b\[K")
 def left_alone(program, engine, error):
     """The status of a replay whose replies are taken late, and its replies."""
     with tempfile.TemporaryDirectory() as folder:
-        for name, data in (("snapshot", SNAPSHOT), ("capture", LONG.removeprefix(SNAPSHOT))):
-            with open(os.path.join(folder, name), "wb") as file:
-                file.write(data)
+        put(folder, {"snapshot": SNAPSHOT, "capture": LONG})
         replies = os.path.join(folder, "replies")
         os.mkfifo(replies)
-        words = [program, "replay", "--engine", engine]
-        words += [word for name in ("snapshot", "capture", "replies") for word in ("--" + name, name)]
+        words = [program, "replay", "--engine", engine, *options("snapshot", "capture", "replies")]
         child = subprocess.Popen(words, cwd=folder, stdin=subprocess.DEVNULL, stdout=subprocess.DEVNULL, stderr=error)
         with open(replies, "rb") as pipe:
             time.sleep(LEFT_ALONE)
@@ -439,8 +279,7 @@ def check_progress(report, program):
 
 
 def main():
-    program = program_of(__doc__)
-    report = Report()
+    program, report = program_of(__doc__), Report()
     rows = TABLE[:]
     for name, text, fault, replies in TRAFFIC_TABLE:
         line = b"haboob: capture: %s\n" % fault.encode() if fault else b""
@@ -449,11 +288,14 @@ def main():
         rows.append((name, "pipe", data, "pipe", 5, b"haboob: capture: record %d: Cut\n" % number, replies))
     for name, given, data, taken, status, line, replies in rows:
         with tempfile.TemporaryDirectory() as folder:
-            got = run(program, given, data, taken, folder)
+            got = run_on(program, given, data, taken, folder)
         report.see_told(name, got[:2] == (status, line) and replies in (None, got[2]), got)
-    got = silent_error(program)
+    with open("/dev/full", "wb") as full:
+        got = run(program, [], stderr=full)[0]
     report.see("an error that can't be written", got == 4, got)
-    got = little_memory(program)
+    # no memory for the file that the snapshot announces
+    announced = b"haboob-snapshot 1\nfile 0 1 16777216\na\n"
+    got = run(program, [], input=announced, preexec_fn=limit(resource.RLIMIT_AS, MEMORY))
     report.see_told("little memory", got == (7, b"haboob: memory\n", b""), got)
     check_progress(report, program)
     return report.end()

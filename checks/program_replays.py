@@ -8,31 +8,15 @@ import sys
 import tempfile
 import threading
 
-# The folder stays as it is.
-sys.dont_write_bytecode = True
-from program_parts import (
-    CLOSING,
-    FIRST_LINE,
-    GOOD,
-    HEADER,
-    HEADER_TRAFFIC,
-    OLD,
-    OPEN_REPLIES,
-    OPEN_REPORT,
-    PIECE,
-    REJECTED,
-    REPLY,
-    REQUEST,
-    SECONDS,
-    SNAPSHOT,
-    STATUSES,
-    TIGHT_REPLIES,
-    TIGHT_REPORT,
-    Report,
-    is_told,
-    program_of,
-    run_over_files,
-)
+from lib.report import Report
+from lib.run import put, run, run_over
+from lib.texts import (CLOSING, HEADER_TRAFFIC, HEADER_TWO, ONE, REQUEST, SNAPSHOT, TRAFFIC, piece,
+                       recording_text)
+from lib.usage import program_of
+from program_parts import (FILES, FIRST_LINE, GOOD, HEADING, OLD, OPEN_REPLIES, OPEN_REPORT, REJECTED, REPLY, STATUSES,
+                           TIGHT_REPLIES, TIGHT_REPORT, check_runs)
+
+SECONDS = 120  # that a run over a large text may take
 
 # What is told of one message more than a replay may have.
 TOO_MANY = 5, b"haboob: capture: message 1048576: TooMany\n", b""
@@ -42,44 +26,20 @@ TOO_MANY = 5, b"haboob: capture: message 1048576: TooMany\n", b""
 RUNS = [
     # name, words, status, line, replies, report
     ("a bucket of one token", GOOD + ["--settings", "settings"], 0, b"", TIGHT_REPLIES, TIGHT_REPORT),
-    (
-        "the same, the plain engine",
-        GOOD + ["--settings", "settings", "--engine", "plain"],
-        0,
-        b"",
-        TIGHT_REPLIES,
-        TIGHT_REPORT,
-    ),
-    (
-        "a traffic text",
-        GOOD[:3] + ["traffic"] + GOOD[4:] + ["--settings", "settings"],
-        0,
-        b"",
-        TIGHT_REPLIES,
-        TIGHT_REPORT,
-    ),
-    (
-        "the same, the plain engine",
-        GOOD[:3] + ["traffic"] + GOOD[4:] + ["--settings", "settings", "--engine", "plain"],
-        0,
-        b"",
-        TIGHT_REPLIES,
-        TIGHT_REPORT,
-    ),
+    ("the same, the plain engine", GOOD + ["--settings", "settings", "--engine", "plain"], 0, b"", TIGHT_REPLIES,
+     TIGHT_REPORT),
+    ("a traffic text", GOOD[:3] + ["traffic"] + GOOD[4:] + ["--settings", "settings"], 0, b"", TIGHT_REPLIES,
+     TIGHT_REPORT),
+    ("the same, the plain engine", GOOD[:3] + ["traffic"] + GOOD[4:] + ["--settings", "settings", "--engine", "plain"],
+     0, b"", TIGHT_REPLIES, TIGHT_REPORT),
     ("default settings", GOOD, 0, b"", OPEN_REPLIES, OPEN_REPORT),
     ("settings without keys", GOOD + ["--settings", "empty"], 0, b"", OPEN_REPLIES, OPEN_REPORT),
     ("no options", [], 2, None, OLD, b""),
     ("no capture", GOOD[:2] + GOOD[4:], 2, None, OLD, b""),
     ("help", ["--help"], 2, None, OLD, b""),
     ("another engine", GOOD + ["--engine", "fast"], 2, b"haboob: engine\n", OLD, b""),
-    (
-        "another engine, and no settings",
-        GOOD + ["--engine", "fast", "--settings", "absent"],
-        2,
-        b"haboob: engine\n",
-        OLD,
-        b"",
-    ),
+    ("another engine, and no settings", GOOD + ["--engine", "fast", "--settings", "absent"], 2, b"haboob: engine\n",
+     OLD, b""),
     ("no settings file", GOOD + ["--settings", "absent"], 6, b"haboob: open: settings\n", OLD, b""),
     ("a folder as settings", GOOD + ["--settings", "folder"], 6, b"haboob: read: settings\n", OLD, b""),
     ("depth 0", GOOD + ["--settings", "depth"], 3, b"haboob: settings: Range policy.depth\n", OLD, b""),
@@ -87,78 +47,35 @@ RUNS = [
     ("settings of 65536 bytes", GOOD + ["--settings", "longest"], 0, b"", TIGHT_REPLIES, TIGHT_REPORT),
     ("settings of 65537 bytes", GOOD + ["--settings", "too_long"], 3, b"haboob: settings: Text\n", OLD, b""),
     ("settings without an end", GOOD + ["--settings", "/dev/zero"], 3, b"haboob: settings: Text\n", OLD, b""),
-    (
-        "depth 0, and no snapshot",
-        ["--snapshot", "absent"] + GOOD[2:] + ["--settings", "depth"],
-        3,
-        b"haboob: settings: Range policy.depth\n",
-        OLD,
-        b"",
-    ),
+    ("depth 0, and no snapshot", ["--snapshot", "absent"] + GOOD[2:] + ["--settings", "depth"], 3,
+     b"haboob: settings: Range policy.depth\n", OLD, b""),
     ("no snapshot", ["--snapshot", "absent"] + GOOD[2:], 6, b"haboob: open: snapshot\n", OLD, b""),
     ("an empty name", ["--snapshot", ""] + GOOD[2:], 6, b"haboob: open: snapshot\n", OLD, b""),
     ("no capture file", GOOD[:2] + ["--capture", "absent"] + GOOD[4:], 6, b"haboob: open: capture\n", OLD, b""),
     ("replies into no folder", GOOD[:4] + ["--replies", "absent/replies"], 6, b"haboob: open: replies\n", OLD, b""),
     ("a folder as snapshot", ["--snapshot", "folder"] + GOOD[2:], 6, b"haboob: read: snapshot\n", OLD, b""),
-    (
-        "a folder as capture",
-        GOOD[:2] + ["--capture", "folder"] + GOOD[4:],
-        6,
-        b"haboob: read: capture\n",
-        FIRST_LINE,
-        b"",
-    ),
-    (
-        "a byte after the snapshot",
-        ["--snapshot", "longer"] + GOOD[2:],
-        4,
-        b"haboob: snapshot: entry 2: Trailing\n",
-        OLD,
-        b"",
-    ),
-    (
-        "an empty capture",
-        GOOD[:2] + ["--capture", "empty"] + GOOD[4:],
-        5,
-        b"haboob: capture: record 0: Cut\n",
-        FIRST_LINE,
-        b"",
-    ),
+    ("a folder as capture", GOOD[:2] + ["--capture", "folder"] + GOOD[4:], 6, b"haboob: read: capture\n", FIRST_LINE,
+     b""),
+    ("a byte after the snapshot", ["--snapshot", "longer"] + GOOD[2:], 4, b"haboob: snapshot: entry 2: Trailing\n", OLD,
+     b""),
+    ("an empty capture", GOOD[:2] + ["--capture", "empty"] + GOOD[4:], 5, b"haboob: capture: record 0: Cut\n",
+     FIRST_LINE, b""),
     ("no replies before", GOOD[:4] + ["--replies", "new"], 0, b"", OLD, OPEN_REPORT),
     ("the capture as replies", GOOD[:4] + ["--replies", "capture"], 6, b"haboob: open: replies\n", OLD, b""),
-    (
-        "the capture by another name",
-        GOOD[:4] + ["--replies", "./folder/../capture"],
-        6,
-        b"haboob: open: replies\n",
-        OLD,
-        b"",
-    ),
+    ("the capture by another name", GOOD[:4] + ["--replies", "./folder/../capture"], 6, b"haboob: open: replies\n", OLD,
+     b""),
     ("the snapshot by a link as replies", GOOD[:4] + ["--replies", "link"], 6, b"haboob: open: replies\n", OLD, b""),
-    (
-        "the settings by a hard link as replies",
-        GOOD[:4] + ["--replies", "same", "--settings", "settings"],
-        6,
-        b"haboob: open: replies\n",
-        OLD,
-        b"",
-    ),
+    ("the settings by a hard link as replies", GOOD[:4] + ["--replies", "same", "--settings", "settings"], 6,
+     b"haboob: open: replies\n", OLD, b""),
     ("that file where it isn't the settings", GOOD[:4] + ["--replies", "other"], 0, b"", OLD, OPEN_REPORT),
-    (
-        "a device as an input and as replies",
-        ["--snapshot", "/dev/null"] + GOOD[2:4] + ["--replies", "/dev/null"],
-        4,
-        b"haboob: snapshot: entry 0: Cut\n",
-        OLD,
-        b"",
-    ),
+    ("a device as an input and as replies", ["--snapshot", "/dev/null"] + GOOD[2:4] + ["--replies", "/dev/null"], 4,
+     b"haboob: snapshot: entry 0: Cut\n", OLD, b""),
     ("replies into a full device", GOOD[:4] + ["--replies", "/dev/full"], 6, b"haboob: write: replies\n", OLD, b""),
 ]
 
 # The same of the other commands that read these files: the verb first. A table of decisions goes into the file of the
 # replies. With one token a second (1,000 units of 10^-9 token a microsecond) the bucket is empty after the first
 # request.
-HEADING = b"number,connection,tick,tier,status,decision,service,credit,rate,start,finish,waited,method,target\n"
 TIGHT_TABLE = (
     HEADING
     + b"0,0,0,0,200,admitted,201,1000000000,1000,0,201,0,GET,/a.txt\n1,0,0,0,503,rejected,201,0,1000,,,201,GET,/a.txt\n"
@@ -191,54 +108,19 @@ TABLE_OF = ["--snapshot", "snapshot", "--capture", "capture", "--messages"]
 GOOD_TABLE = TABLE_OF + ["replies"]
 OTHER_RUNS = [
     ("explain", "a bucket of one token", GOOD_TABLE + ["--settings", "settings"], 0, b"", TIGHT_TABLE, TIGHT_REPORT),
-    (
-        "explain",
-        "a traffic text",
-        TABLE_OF[:3] + ["traffic", "--messages", "replies", "--settings", "settings"],
-        0,
-        b"",
-        TIGHT_TABLE,
-        TIGHT_REPORT,
-    ),
+    ("explain", "a traffic text", TABLE_OF[:3] + ["traffic", "--messages", "replies", "--settings", "settings"], 0, b"",
+     TIGHT_TABLE, TIGHT_REPORT),
     ("explain", "no file for the table", TABLE_OF[:4], 2, None, OLD, b""),
     ("explain", "an engine", GOOD_TABLE + ["--engine", "plain"], 2, None, OLD, b""),
-    (
-        "explain",
-        "depth 0",
-        GOOD_TABLE + ["--settings", "depth"],
-        3,
-        b"haboob: settings: Range policy.depth\n",
-        OLD,
-        b"",
-    ),
-    (
-        "explain",
-        "a snapshot as capture",
-        GOOD_TABLE[:3] + ["snapshot"] + GOOD_TABLE[4:],
-        5,
-        b"haboob: capture: record 0: Header\n",
-        HEADING,
-        b"",
-    ),
+    ("explain", "depth 0", GOOD_TABLE + ["--settings", "depth"], 3, b"haboob: settings: Range policy.depth\n", OLD,
+     b""),
+    ("explain", "a snapshot as capture", GOOD_TABLE[:3] + ["snapshot"] + GOOD_TABLE[4:], 5,
+     b"haboob: capture: record 0: Header\n", HEADING, b""),
     ("explain", "the table into the capture", TABLE_OF + ["capture"], 6, b"haboob: open: messages\n", OLD, b""),
-    (
-        "explain",
-        "the table into the settings",
-        TABLE_OF + ["settings", "--settings", "settings"],
-        6,
-        b"haboob: open: messages\n",
-        OLD,
-        b"",
-    ),
-    (
-        "explain",
-        "the table into a hard link to the settings",
-        TABLE_OF + ["same", "--settings", "settings"],
-        6,
-        b"haboob: open: messages\n",
-        OLD,
-        b"",
-    ),
+    ("explain", "the table into the settings", TABLE_OF + ["settings", "--settings", "settings"], 6,
+     b"haboob: open: messages\n", OLD, b""),
+    ("explain", "the table into a hard link to the settings", TABLE_OF + ["same", "--settings", "settings"], 6,
+     b"haboob: open: messages\n", OLD, b""),
     ("explain", "the table into a link to the snapshot", TABLE_OF + ["link"], 6, b"haboob: open: messages\n", OLD, b""),
     ("explain", "the table into a folder", TABLE_OF + ["folder"], 6, b"haboob: open: messages\n", OLD, b""),
     ("explain", "the table into a full device", TABLE_OF + ["/dev/full"], 6, b"haboob: write: messages\n", OLD, b""),
@@ -263,44 +145,23 @@ def controls_report(listed):
     return begin + b"p50 201\np90 201\np99 201\ncontrols 1001\n" + b"".join(listed) + b"end\n"
 
 
-def report_of_controls(program, engine, header):
+def report_of_controls(program, engine, begin):
     """Status, line and report of a replay of those requests, each on a connection of its own where that can be."""
-    ended = b"end %d 0\n" if header == HEADER_TRAFFIC else b""
-    records = b"".join(
-        b"piece %d 0 32\n%s\n" % (tick, REQUEST) + (ended % tick if ended else b"")
-        for tick in range(0, 1002 * 10**6, 10**6)
-    )
-    count = 2004 if ended else 1002
-    with tempfile.TemporaryDirectory() as folder:
-        files = {"snapshot": SNAPSHOT, "capture": header + records + b"stop %d\n" % count, "settings": SECONDLY}
-        for name, data in files.items():
-            with open(os.path.join(folder, name), "wb") as file:
-                file.write(data)
-        child = subprocess.run(
-            [os.path.abspath(program), "replay", *GOOD, "--settings", "settings", "--engine", engine],
-            cwd=folder,
-            capture_output=True,
-            timeout=SECONDS,
-        )
-    return child.returncode, child.stderr, child.stdout
+    records = []
+    for tick in range(0, 1002 * 10**6, 10**6):
+        records += [(tick, 0, REQUEST), (tick, 0)] if begin == TRAFFIC else [(tick, 0, REQUEST)]
+    files = {"snapshot": SNAPSHOT, "capture": recording_text(records, begin), "settings": SECONDLY}
+    return run_over(program, ["replay", *GOOD, "--settings", "settings", "--engine", engine], files)[:3]
+
 
 # A message that closes and 16,400 pieces after it, of 65,553 bytes each with their lines: 1,075,069,292 bytes in all
 # without the last line. A capture ends at byte 1,073,741,824, within the 16,380th of them, which is record 16381.
-LONG_BEGIN = b"piece 0 0 51\n" + CLOSING + b"\n"
-LONG_PIECE = b"piece 0 0 65536\n" + b"x" * 65_536 + b"\n"
+LONG_BEGIN, LONG_PIECE = piece(0, 0, CLOSING), piece(0, 0, b"x" * 65_536)
 LONG_COUNT = 16_400
 LONG_TEXTS = [
     # name, first line, status, line, version, whole records, lines after `connections`, bytes
-    (
-        "a capture of more than a GiB",
-        b"haboob-capture 2 784111777\n",
-        5,
-        b"haboob: capture: record 16381: TooLarge\n",
-        b"2",
-        16_380,
-        b"",
-        1_073_414_195,
-    ),
+    ("a capture of more than a GiB", HEADER_TWO, 5, b"haboob: capture: record 16381: TooLarge\n",
+     b"2", 16_380, b"", 1_073_414_195),
     ("a traffic text of more than a GiB", HEADER_TRAFFIC, 0, b"", b"traffic", 16_401, b"open 1\n", 1_074_790_451),
 ]
 
@@ -318,9 +179,9 @@ def long_inspection(version, records, more, size):
 
 def inspect_long(program, header):
     """Status, line and inspection of such a text, which comes over a pipe."""
-    words = [os.path.abspath(program), "inspect", "--capture", "/dev/stdin"]
+    words = [program, "inspect", "--capture", "/dev/stdin"]
     with subprocess.Popen(words, stdin=subprocess.PIPE, stdout=subprocess.PIPE, stderr=subprocess.PIPE) as child:
-        killer = threading.Timer(SECONDS * 6, child.kill)
+        killer = threading.Timer(SECONDS, child.kill)
         killer.start()
         try:
             child.stdin.write(header + LONG_BEGIN)
@@ -336,55 +197,38 @@ def inspect_long(program, header):
     return child.returncode, line, text
 
 
-def unwritten_report(program):
-    """The status, the line and the replies where standard output can't be written."""
-    with tempfile.TemporaryDirectory() as folder, open("/dev/full", "wb") as full:
-        return run_over_files(program, GOOD + ["--settings", "settings"], folder, full)[:3]
-
-
 def too_many(program, engine):
     """What is told of one message more than a capture may have; and whether as many as it may have are answered."""
-    block = b"piece 0 0 65536\n" + REQUEST * 2048 + b"\n"
+    capture = recording_text([(0, 0, REQUEST * 2048)] * 512 + [(0, 0, REQUEST)])
     with tempfile.TemporaryDirectory() as folder:
-        files = {"snapshot": SNAPSHOT, "capture": HEADER + block * 512 + PIECE + b"stop 513\n"}
-        for name, data in files.items():
-            with open(os.path.join(folder, name), "wb") as file:
-                file.write(data)
-        child = subprocess.run(
-            [os.path.abspath(program), "replay", *GOOD, "--engine", engine],
-            cwd=folder,
-            capture_output=True,
-            timeout=SECONDS * 6,
-        )
+        put(folder, {"snapshot": SNAPSHOT, "capture": capture})
+        got = run(program, ["replay", *GOOD, "--engine", engine], folder, SECONDS)
         with open(os.path.join(folder, "replies"), "rb") as file:
             good = file.read(len(FIRST_LINE)) == FIRST_LINE
             for number in range(1_048_576):
                 reply = REPLY % number if number < 100 else REJECTED % number
                 good = good and file.read(len(reply)) == reply
             good = good and file.read() == b""
-    return good, (child.returncode, child.stderr, child.stdout)
+    return good, got
 
 
 def main():
-    program = program_of(__doc__)
-    report = Report()
-    for verb, name, words, status, line, replies, text in [("replay", *row) for row in RUNS] + OTHER_RUNS:
-        with tempfile.TemporaryDirectory() as folder:
-            got = run_over_files(program, words, folder, subprocess.PIPE, verb)
-        good = (got[0], got[2], got[3]) == (status, replies, text) and is_told(got[1], line)
-        report.see_told(verb + ": " + name, good, got)
+    program, report = program_of(__doc__), Report()
+    check_runs(report, program, [("replay", *row) for row in RUNS] + OTHER_RUNS)
     for name, header, status, line, version, records, more, size in LONG_TEXTS:
         got = inspect_long(program, header)
         good = got == (status, line, long_inspection(version, records, more, size))
         report.see_told("inspect: " + name, good, got)
-    got = unwritten_report(program)
+    with open("/dev/full", "wb") as full:
+        status, line, _, after = run_over(program, ["replay", *GOOD, "--settings", "settings"], FILES, stdout=full)
+    got = status, line, after["replies"]
     good = got == (6, b"haboob: write: report\n", TIGHT_REPLIES)
     report.see_told("replay: a report into a full device", good, got)
     for engine in ("plain", "staged"):
-        got = report_of_controls(program, engine, HEADER)
+        got = report_of_controls(program, engine, ONE)
         good = got == (0, b"", controls_report(CONTROLS))
         report.see("replay: all controls of a capture, " + engine, good, got)
-        got = report_of_controls(program, engine, HEADER_TRAFFIC)
+        got = report_of_controls(program, engine, TRAFFIC)
         good = got == (0, b"", controls_report(CONTROLS[-1000:]))
         report.see("replay: the last controls of a traffic text, " + engine, good, got)
         good, got = too_many(program, engine)

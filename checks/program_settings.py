@@ -3,17 +3,16 @@
 settings that were written out are read back the same. The table of docs/FORMATS.md has the keys of that text in their
 order, each with its default and its range.
 """
-import os
 import re
-import subprocess
 import sys
-import tempfile
 import tomllib
 
-# The folder stays as it is.
-sys.dont_write_bytecode = True
+from lib.report import Report
+from lib.run import run, run_over
+from lib.sources import read
+from lib.usage import program_of
 import reference
-from program_parts import OLD, SECONDS, Report, is_told, program_of, run_over_files
+from program_parts import OLD, check_runs
 
 # Settings that are written out, by reference.py: the default ones, and those of a bucket of one token.
 DEFAULTS = reference.settings_text(b"")[2]
@@ -41,7 +40,6 @@ READ_BACK = ["[%s]\n%s" % (table, limits(table, end)) for table in reference.SET
 ]
 
 # A row of the page's table: the key, its default, its range.
-FORMATS = os.path.join(os.path.dirname(os.path.dirname(os.path.abspath(__file__))), "docs", "FORMATS.md")
 ROW = re.compile(r"^\| (\w+\.\w+)[^|]* \| ([^|]+) \| ([^|]+) \|", re.MULTILINE)
 RANGE = re.compile(r"^([\d,]+) to ([\d,]+)$")
 
@@ -95,10 +93,8 @@ FAULTS = [
     ("[tier2]\nrat = 1\n", told("Unknown", UNKNOWN_WORDS % ("tier2.rat", "tier2.rate"))),
     ("[Policy]\nrate = 1\n", told("Unknown", UNKNOWN_WORDS % ("Policy", "policy"))),
     # a name that would act on a terminal
-    (
-        '[page]\n"retry\\u001b[2Jafter" = 1\n',
-        told("Unknown", UNKNOWN_WORDS % ("page.retry?[2Jafter", "page.retry_after")),
-    ),
+    ('[page]\n"retry\\u001b[2Jafter" = 1\n',
+     told("Unknown", UNKNOWN_WORDS % ("page.retry?[2Jafter", "page.retry_after"))),
     ("[policy\n", told("Text", NO_TOML)),
 ]
 
@@ -125,8 +121,7 @@ RUNS = [
 def page_rows():
     """The keys of the page's table, each with its default as the document has it, and its range where that is given by
     two numbers."""
-    with open(FORMATS, encoding="utf-8") as file:
-        section = file.read().split("\n## Settings\n")[1].split("\n## ")[0]
+    section = read("docs/FORMATS.md").split("\n## Settings\n")[1].split("\n## ")[0]
     for key, default, values in ROW.findall(section):
         found = RANGE.match(values)
         yield key, default, found and tuple(int(number.replace(",", "")) for number in found.groups())
@@ -145,32 +140,15 @@ def is_page_right(rows):
     )
 
 
-def unwritten_settings(program):
-    """The status and the line where standard output can't be written."""
-    with open("/dev/full", "wb") as full:
-        child = subprocess.run(
-            [program, "settings"], stdin=subprocess.DEVNULL, stdout=full, stderr=subprocess.PIPE, timeout=SECONDS
-        )
-    return child.returncode, child.stderr
-
-
-def run_over(program, document):
-    """A run over a document."""
-    with tempfile.NamedTemporaryFile() as file:
-        file.write(document)
-        file.flush()
-        return subprocess.run(
-            [program, "settings", "--settings", file.name],
-            stdin=subprocess.DEVNULL,
-            capture_output=True,
-            timeout=SECONDS,
-        )
+def run_settings(program, document):
+    """Status, standard error and standard output of a run over a document."""
+    return run_over(program, ["settings", "--settings", "document"], {"document": document})[:3]
 
 
 def written_out(program, document):
     """The settings of a document, written out: None where that fails."""
-    child = run_over(program, document)
-    return child.stdout if (child.returncode, child.stderr) == (0, b"") else None
+    status, line, text = run_settings(program, document)
+    return text if (status, line) == (0, b"") else None
 
 
 def is_read_back(program, document):
@@ -189,18 +167,13 @@ def is_read_back(program, document):
 
 
 def main():
-    program = program_of(__doc__)
-    report = Report()
-    for name, words, status, line, replies, text in RUNS:
-        with tempfile.TemporaryDirectory() as folder:
-            got = run_over_files(program, words, folder, subprocess.PIPE, "settings")
-        good = (got[0], got[2], got[3]) == (status, replies, text) and is_told(got[1], line)
-        report.see_told("settings: " + name, good, got)
-    got = unwritten_settings(program)
+    program, report = program_of(__doc__), Report()
+    check_runs(report, program, [("settings", *row) for row in RUNS])
+    with open("/dev/full", "wb") as full:
+        got = run(program, ["settings"], stdout=full)[:2]
     report.see_told("settings: a full device", got == (6, b"haboob: write: report\n"), got)
     for document, lines in FAULTS:
-        child = run_over(program, document.encode())
-        got = (child.returncode, child.stderr, child.stdout)
+        got = run_settings(program, document.encode())
         report.see_told("settings: %r" % document, got == (3, lines, b""), got)
     rows = list(page_rows())
     report.see("settings: the table of docs/FORMATS.md", is_page_right(rows), rows)

@@ -5,14 +5,14 @@ it.
 """
 import random
 import sys
-import tempfile
 
-# The folder stays as it is.
-sys.dont_write_bytecode = True
+from lib.report import Report
+from lib.run import run_over
+from lib.texts import CLOSING, HEADER, HEADER_TRAFFIC, HEADER_TWO, ONE, TRAFFIC, recording_text
+from lib.usage import program_of
 import compare_replays as drawn
-from program_parts import CLOSING, HEADER, HEADER_TRAFFIC, LIVES, OLDEST, PIECE, Report, is_told, program_of, rewrite
+from program_parts import LIVES, OLDEST, PIECE, check_rewrites
 
-HEADER_TWO = b"haboob-capture 2 784111777\n"
 SLIM = ["--capture", "capture", "--output", "output"]
 TO_TWO = SLIM + ["--format", "2"]
 DROP = ["--drop-queries"]
@@ -22,40 +22,24 @@ QUERIES = [b"/a.txt?%s", b"/?a=%s&b=c", b"http://h?%s/x", b"http://h/a.txt?x?%s"
 DATE = b"If-Modified-Since: Sun, 06 Nov 1994 08:49:37 GMT\r\n"
 
 
-def piece(tick, conn, data):
-    return b"piece %d %d %d\n%s\n" % (tick, conn, len(data), data)
-
-
-def text(header, *records):
-    return header + b"".join(records) + b"stop %d\n" % len(records)
-
-
-def of_blocks(header, blocks):
+def of_blocks(begin, blocks):
     """A text of pieces, each with a block on a connection of its own."""
-    return text(header, *[piece(0, conn, block) for conn, block in enumerate(blocks)])
+    return recording_text([(0, conn, block) for conn, block in enumerate(blocks)], begin)
 
 
-ONE = b"GET /a.txt HTTP/1.1\nHost:\n\n"
+SLIM_ONE = b"GET /a.txt HTTP/1.1\nHost:\n\n"
 REQUESTED = HEADER + PIECE + b"end 5 0\nstop 2\n"
-SLIMMED = text(HEADER_TRAFFIC, piece(0, 0, ONE), b"end 5 0\n")
-SLIM_LIVES = text(
-    HEADER_TRAFFIC,
-    b"tier 9 1\n",
-    piece(5, 9, b"GET /a.txt HTTP/1.1\nHost:\nConnection:close\n\n"),
-    b"end 6 9\n",
-    b"end 6 3\n",
-    b"end 6 3\n",
-    piece(7, 3, ONE),
-)
+SLIMMED = recording_text([(0, 0, SLIM_ONE), (5, 0)], TRAFFIC)
+SLIM_LIVES = recording_text([
+    ("tier", 9, 1), (5, 9, b"GET /a.txt HTTP/1.1\nHost:\nConnection:close\n\n"), (6, 9), (6, 3), (6, 3),
+    (7, 3, SLIM_ONE)], TRAFFIC)
 # Each block, and the one that stands for it.
 BLOCKS = [
     (CLOSING + b"more", b"GET /a.txt HTTP/1.1\nHost:\nConnection:close\n\n"),
     (b"GET / HTTP/1.0\r\nHost: a\r\n\r\n", b"GET / HTTP/1.0\n\n"),
     (b"GET / HTTP/1.0\r\nConnection: x, Keep-Alive\r\n\r\n", b"GET / HTTP/1.0\nConnection:keep-alive\n\n"),
-    (
-        b"HEAD / HTTP/1.1\r\n" + DATE + b"Host: a\r\n\r\n",
-        b"HEAD / HTTP/1.1\nHost:\nIf-Modified-Since:Sun Nov 06 08:49:37 1994\n\n",
-    ),
+    (b"HEAD / HTTP/1.1\r\n" + DATE + b"Host: a\r\n\r\n",
+     b"HEAD / HTTP/1.1\nHost:\nIf-Modified-Since:Sun Nov 06 08:49:37 1994\n\n"),
     (b"POST / HTTP/1.1\r\n" + DATE + b"Host: a\r\nContent-Length: 2\r\n\r\nhi", b"POST / HTTP/1.1\nHost:\n\n"),
     (b"GET / HTTP/1.1\r\n" + DATE + b"Host: a\r\nIf-None-Match: x\r\n\r\n", b"GET / HTTP/1.1\nHost:\n\n"),
     (b"nonsense\r\n\r\n", b"A\n\n"),
@@ -89,7 +73,7 @@ def asking(targets, method):
 
 
 def of_targets(place, method=b"GET"):
-    return of_blocks(HEADER_TRAFFIC, asking([pair[place] for pair in TARGETS], method))
+    return of_blocks(TRAFFIC, asking([pair[place] for pair in TARGETS], method))
 
 
 CASES = [
@@ -97,16 +81,10 @@ CASES = [
     ("a request, to traffic", REQUESTED, SLIM + ["--format=traffic"], 0, b"", SLIMMED),
     ("a request, to version 2", REQUESTED, TO_TWO, 0, b"", SLIMMED.replace(HEADER_TRAFFIC, HEADER_TWO)),
     ("a slim text, to version 2", SLIMMED, TO_TWO, 0, b"", SLIMMED),
-    ("nothing", text(HEADER), SLIM, 0, b"", text(HEADER_TRAFFIC)),
+    ("nothing", recording_text([]), SLIM, 0, b"", recording_text([], TRAFFIC)),
     ("numbers used again", LIVES, SLIM, 0, b"", SLIM_LIVES),
-    (
-        "each kind of block",
-        of_blocks(HEADER, [block for block, _ in BLOCKS]),
-        SLIM,
-        0,
-        b"",
-        of_blocks(HEADER_TRAFFIC, [block for _, block in BLOCKS]),
-    ),
+    ("each kind of block", of_blocks(ONE, [block for block, _ in BLOCKS]), SLIM, 0, b"",
+     of_blocks(TRAFFIC, [block for _, block in BLOCKS])),
     ("targets", of_targets(0), SLIM, 0, b"", of_targets(0)),
     ("targets without their query", of_targets(0), SLIM + DROP, 0, b"", of_targets(1)),
     ("the same of OPTIONS", of_targets(0, b"OPTIONS"), DROP + SLIM, 0, b"", of_targets(1, b"OPTIONS")),
@@ -121,14 +99,8 @@ CASES = [
     ("help", REQUESTED, ["--help"], 2, None, OLDEST),
     ("an empty capture", b"", SLIM, 5, b"haboob: capture: record 0: Cut\n", b""),
     ("no last line", HEADER + PIECE, SLIM, 5, b"haboob: capture: record 2: Cut\n", SLIMMED.partition(b"end")[0]),
-    (
-        "an end twice",
-        HEADER + b"end 5 0\n" * 2,
-        SLIM,
-        5,
-        b"haboob: capture: record 2: Ended\n",
-        HEADER_TRAFFIC + b"end 5 0\n",
-    ),
+    ("an end twice", HEADER + b"end 5 0\n" * 2, SLIM, 5, b"haboob: capture: record 2: Ended\n",
+     HEADER_TRAFFIC + b"end 5 0\n"),
     ("no such capture", REQUESTED, ["--capture=none", "--output=output"], 6, b"haboob: open: capture\n", OLDEST),
     ("a folder as capture", REQUESTED, ["--capture=folder", "--output=output"], 6, b"haboob: read: capture\n", b""),
     ("a folder as output", REQUESTED, ["--capture=capture", "--output=folder"], 6, b"haboob: open: output\n", OLDEST),
@@ -140,7 +112,9 @@ CASES = [
 
 def slim(program, capture, words=()):
     """Status, line on standard error and output of a run with these words besides."""
-    return drawn.run_program(program, ["slim", *words], {"capture": capture, "output": OLDEST}, "output")[:3]
+    words = ["slim", "--capture", "capture", "--output", "output", *words]
+    status, line, _, after = run_over(program, words, {"capture": capture, "output": OLDEST}, seconds=drawn.SECONDS)
+    return status, line, after["output"]
 
 
 def all_answers(program, snapshot, capture, settings):
@@ -234,7 +208,7 @@ def look_for_secret(program, report, words):
     """Looks for a secret in the slim text of many heads."""
     chance = random.Random(7)
     secret = b"s3cr3t-%08x" % chance.getrandbits(32)
-    capture = of_blocks(HEADER, [secret_head(chance, secret, words == DROP) for _ in range(HEADS)])
+    capture = of_blocks(ONE, [secret_head(chance, secret, words == DROP) for _ in range(HEADS)])
     status, line, slimmed = slim(program, capture, words)
     same = messages_told(program, capture) == messages_told(program, slimmed) != b"messages 0"
     good = (status, line, same) == (0, b"", True) and secret in capture and secret not in slimmed
@@ -244,13 +218,8 @@ def look_for_secret(program, report, words):
 
 
 def main():
-    program = program_of(__doc__)
-    report = Report()
-    for name, capture, words, status, line, output in CASES:
-        with tempfile.TemporaryDirectory() as folder:
-            got = rewrite(program, "slim", capture, words, folder)
-        good = (got[0], *got[2:]) == (status, output, capture, b"") and is_told(got[1], line)
-        report.see_told("slim: " + name, good, got)
+    program, report = program_of(__doc__), Report()
+    check_rewrites(report, program, "slim", CASES)
     compare_drawn(program, report)
     look_for_secret(program, report, [])
     look_for_secret(program, report, DROP)

@@ -11,14 +11,14 @@ import itertools
 import lzma
 import os
 import shutil
-import subprocess
 import sys
 import tempfile
 import unicodedata
 
-# The folder stays as it is.
-sys.dont_write_bytecode = True
-from program_parts import FILES, SECONDS, Report, contents, program_of
+from lib.report import Report
+from lib.run import contents, options, put, run, run_over
+from lib.usage import program_of
+from program_parts import FILES
 
 NOT_TEXT = b"error: a word is not UTF-8\n\nFor more information, try '--help'.\n"
 ODD_WORDS = [
@@ -101,22 +101,17 @@ def check_looks(report, program):
         data += bytes(100) * (not data.endswith(b"\n") and data != b"")  # more than a line may have
         kinds = ["capture"] * (name not in ("capture", "traffic")) + ["snapshot"] * (name != "snapshot")
         for kind, engine in itertools.product(kinds, ("plain", "staged")):
-            with tempfile.TemporaryDirectory() as folder:
-                good = [("good " + one, FILES[one]) for one in ("snapshot", "capture")]
-                for one, text in [(name, data), *good]:
-                    with open(os.path.join(folder, one), "wb") as file:
-                        file.write(text)
-                given = {"snapshot": "good snapshot", "capture": "good capture", kind: name}
-                words = ["replay", "--engine", engine, "--replies", "new"]
-                words += [word for option in ("snapshot", "capture") for word in ("--" + option, given[option])]
-                got = told_in(program, words, folder)
+            files = {name: data, "good snapshot": FILES["snapshot"], "good capture": FILES["capture"]}
+            given = {"snapshot": "good snapshot", "capture": "good capture", kind: name}
+            words = ["replay", "--engine", engine, "--replies", "new", *options(**given)]
+            got = run_over(program, words, files)[:2]
             heading = b"capture: record" if kind == "capture" else b"snapshot: entry"
             fault = b"Header" if data else b"Cut"
             wanted = 5 - (kind == "snapshot"), b"haboob: %s 0: %s\n" % (heading, fault) + words_on(name, what)
             report.see_told("%s as a %s, %s" % (name, kind, engine), got == wanted, got)
     for verb in (["inspect"], ["upgrade", "--output", "new"], ["slim", "--output", "new"]):
         for name, wanted in (("snapshot", b"capture: record 0: Header"), ("folder", b"read: capture")):
-            got = run(program, [*verb, "--capture", name])[:2]
+            got = run_beside(program, [*verb, "--capture", name])[:2]
             what = b"it looks like a snapshot" if name == "snapshot" else b"it is a folder"
             status = 5 if name == "snapshot" else 6
             wanted = status, b"haboob: %s\n" % wanted + words_on(name, what)
@@ -133,21 +128,20 @@ def check_refused(report, program):
         (["snapshot", "--folder", "none", "--output", "new"], b"folder", "none", ABSENT),
         (["snapshot", "--folder", "capture", "--output", "new"], b"folder", "capture", b"it is no folder"),
     ):
-        got = run(program, words)[:2]
+        got = run_beside(program, words)[:2]
         wanted = 6, b"haboob: open: %s\n" % role + words_on(name, what)
         report.see_told("refused: " + " ".join(words), got == wanted, got)
     with tempfile.TemporaryDirectory() as folder:
         path = os.path.join(folder, "capture")
-        with open(path, "wb") as file:
-            file.write(FILES["capture"])
+        put(folder, {"capture": FILES["capture"]})
         with open(path, "ab") as out:
-            got = told_in(program, inspect, folder, stdout=out)
+            got = run(program, inspect, folder, stdout=out)[:2]
         wanted = 6, b"haboob: open: report\nhaboob: standard output: it is an input too\n"
         report.see_told("refused: a report into the capture", got == wanted, got)
         with open(path, "rb") as held:
             fcntl.flock(held, fcntl.LOCK_EX)
             shutil.copy(path, path + " too")
-            got = told_in(program, ["upgrade", "--capture", "capture too", "--output", "capture"], folder)
+            got = run(program, ["upgrade", "--capture", "capture too", "--output", "capture"], folder)[:2]
         wanted = 6, b"haboob: open: output\n" + words_on("capture", b"another run is writing it")
         report.see_told("refused: what another run writes", got == wanted, got)
 
@@ -181,24 +175,12 @@ WRONG_DASHES = [
 
 def run_dashes(program, words, given, written):
     """Status, standard error and what was written, of a run from and to pipes; the same of one over files."""
-    with tempfile.TemporaryDirectory() as folder:
-        for name, data in FILES.items():
-            with open(os.path.join(folder, name), "wb") as file:
-                file.write(data)
-        os.mkdir(os.path.join(folder, "folder"))
-        with open(os.path.join(folder, "folder", "a"), "wb") as file:
-            file.write(b"a")
-        os.utime(os.path.join(folder, "folder", "a"), (1, 1))
-        outputs = []
-        for one in (words, without_dashes(words, given)):
-            ran = subprocess.run([program, *one], cwd=folder, input=FILES.get(given, b""), capture_output=True,
-                                 timeout=SECONDS)
-            name = written or ("made" if "made" in one else None)
-            text = contents(os.path.join(folder, name)) if name and name in one else ran.stdout
-            outputs.append((ran.returncode, ran.stderr, text))
-            if os.path.exists(os.path.join(folder, "new")):
-                os.remove(os.path.join(folder, "new"))
-        return outputs
+    outputs = []
+    for one in (words, without_dashes(words, given)):
+        told = run_over(program, one, FILES, a_folder, input=FILES.get(given, b""))
+        name = written or ("made" if "made" in one else None)
+        outputs.append((*told[:2], told[3].get(name, b"") if name in one else told[2]))
+    return outputs
 
 
 def without_dashes(words, given):
@@ -213,51 +195,38 @@ def check_dashes(report, program):
         got, wanted = run_dashes(program, words, given, written)
         report.see_told(" ".join(words[:5]), got == wanted and got[0] == 0 and got[2] != b"", (*got[:2], got, wanted))
     for words, role, what in WRONG_DASHES:
-        got = run(program, words)[:2]
+        got = run_beside(program, words)[:2]
         report.see_told(" ".join(words[:7]), got == (6, b"haboob: open: %s\n" % role + words_on("-", what)), got)
     with tempfile.TemporaryDirectory() as folder:
-        kept = os.path.join(folder, "kept")
-        with open(kept, "wb") as file:
-            file.write(b"before\n")
-        for name in ("capture", "snapshot"):
-            with open(os.path.join(folder, name), "wb") as file:
-                file.write(FILES[name])
-        with open(kept, "ab") as out:
-            got = told_in(program, ["upgrade", "--capture", "capture", "--output", "-"], folder, stdout=out)
-        good = got == (0, b"") and contents(kept).startswith(b"before\nhaboob-capture 2 ")
+        put(folder, {"kept": b"before\n", "capture": FILES["capture"]})
+        upgrade = ["upgrade", "--capture", "capture", "--output", "-"]
+        with open(os.path.join(folder, "kept"), "ab") as out:
+            got = run(program, upgrade, folder, stdout=out)[:2]
+        good = got == (0, b"") and contents(folder, "kept").startswith(b"before\nhaboob-capture 2 ")
         report.see_told("an output that is appended to", good, got)
         with open(os.path.join(folder, "capture"), "ab") as out:
-            got = told_in(program, ["upgrade", "--capture", "capture", "--output", "-"], folder, stdout=out)
+            got = run(program, upgrade, folder, stdout=out)[:2]
         wanted = 6, b"haboob: open: output\nhaboob: standard output: it is an input too\n"
         report.see_told("an output that is the input", got == wanted, got)
 
 
-def told_in(program, words, folder, stdout=subprocess.DEVNULL):
-    """Status and standard error of a run in a folder."""
-    ran = subprocess.run([program, *words], cwd=folder, stdin=subprocess.DEVNULL, stdout=stdout,
-                         stderr=subprocess.PIPE, timeout=SECONDS)
-    return ran.returncode, ran.stderr
+def a_folder(folder):
+    """Makes a folder with a file."""
+    put(folder, {"folder/a": b"a"})
+    os.utime(os.path.join(folder, "folder", "a"), (1, 1))
 
 
-def run(program, words):
-    """Status, line and standard output of a run in a folder, and what is new in the folder."""
-    with tempfile.TemporaryDirectory() as folder:
-        for name, data in FILES.items():
-            with open(os.path.join(folder, name), "wb") as file:
-                file.write(data)
-        os.mkdir(os.path.join(folder, "folder"))
-        there = set(os.listdir(folder))
-        ran = subprocess.run(
-            [program, *words], cwd=folder, stdin=subprocess.DEVNULL, capture_output=True, timeout=SECONDS
-        )
-        return ran.returncode, ran.stderr, ran.stdout, set(os.listdir(folder)) - there
+def run_beside(program, words):
+    """Status, standard error and standard output of a run beside files and an empty folder, and what is new there."""
+    *told, after = run_over(program, words, FILES, lambda folder: os.mkdir(os.path.join(folder, "folder")))
+    return (*told, set(after) - {*FILES, "folder"})
 
 
 def tells_shown(program, words, character):
     """Whether a run with a wrong word that holds a hidden character says what it does of the same word with a question
     mark, and holds no such character but line feeds; and what it did."""
     got, like = (
-        run(program, [(word % ("a" + part + "b" + SHOWN) if "%s" in word else word).encode() for word in words])
+        run_beside(program, [(word % ("a" + part + "b" + SHOWN) if "%s" in word else word).encode() for word in words])
         for part in (character, "?")
     )
     text = got[1].decode()
@@ -267,17 +236,14 @@ def tells_shown(program, words, character):
 
 def words_of(verb, inputs, output, absent):
     """The words of a command, of whose inputs some are absent, with a new output."""
-    words = [verb]
-    for name in inputs:
-        words += ["--" + name, "absent" if name in absent else name]
-    return words + (["--" + output, "new"] if output else [])
+    outputs = {output: "new"} if output else {}
+    return [verb, *options(*inputs, **{name: "absent" for name in absent}, **outputs)]
 
 
 def main():
-    program = program_of(__doc__)
-    report = Report()
+    program, report = program_of(__doc__), Report()
     for words in ODD_WORDS:
-        got = run(program, words)
+        got = run_beside(program, words)
         report.see_told("no text: %r" % words[-1], got == (2, NOT_TEXT, b"", set()), got)
     for number, character in enumerate(HIDDEN):
         words = WRONG_WORDS[number % len(WRONG_WORDS)]
@@ -285,16 +251,16 @@ def main():
         report.see_told("shown: U+%04X in %s" % (ord(character), " ".join(words)), good, got)
     for word in WRONG_FORMATS:
         for capture in ("capture", "absent"):
-            got = run(program, ["upgrade", "--capture", capture, "--output", "new", "--to=" + word])
+            got = run_beside(program, ["upgrade", "--capture", capture, "--output", "new", "--to=" + word])
             wanted = 2, b"haboob: format\nhaboob: the format is to be 2 or traffic\n", b"", set()
             report.see_told("upgrade to %r of %s" % (word, capture), got == wanted, got)
     for (verb, inputs, output), word in itertools.product(COMMANDS[:2], WRONG_SPEEDS):
-        got = run(program, words_of(verb, inputs, output, ("capture",)) + ["--speed=" + word])
+        got = run_beside(program, words_of(verb, inputs, output, ("capture",)) + ["--speed=" + word])
         report.see_told("%s at %r" % (verb, word), got == (2, b"haboob: speed\n" + SPEED, b"", set()), got)
     for verb, inputs, output in COMMANDS:
         for count in range(1, len(inputs) + 1):
             for absent in itertools.combinations(inputs, count):
-                got = run(program, words_of(verb, inputs, output, absent))
+                got = run_beside(program, words_of(verb, inputs, output, absent))
                 wanted = 6, b"haboob: open: %s\n" % absent[0].encode() + words_on("absent", ABSENT), b"", set()
                 report.see_told("%s: without %s" % (verb, ", ".join(absent)), got == wanted, got)
     check_looks(report, program)

@@ -12,16 +12,17 @@ A mutant of checks/mutants/ names its promises by `promise`, an edit of must-fai
 which a row of it begins. Exits with 1 where something is amiss, with a line for each. checks/test_promises.py tries
 that it can fail.
 """
-import argparse
 import glob
 import os
 import re
 import sys
 import tomllib
 
+from lib.report import end
+from lib.sources import TOP, read
+from lib.usage import parser_of
 from mutants import load, tables
 
-TOP = os.path.dirname(os.path.dirname(os.path.abspath(__file__)))
 PAGE = os.path.join(TOP, "docs", "PROMISES.md")
 ROW = re.compile(r"^\| `(?P<key>\w+)` \| (?P<promise>.*) \| (?P<clause>.*) \| (?P<tests>.*) \|$")
 PROMISE = re.compile(r"^promise: (\S.*)$", re.MULTILINE)
@@ -36,11 +37,6 @@ CASES = [re.compile(r"`(?P<script>[\w/]+\.py)` \(%s\)" % SPANS),
          re.compile(r"`(?P<script>[\w/]+\.py): (?P<cases>[^`]+)`")]
 ALONE = "By tests alone"
 FUNCTION = re.compile(r"^\s*(?:pub )?fn (\w+)|^\s*(?:pub )?mod (\w+);", re.MULTILINE)
-
-
-def read(path):
-    with open(path, encoding="utf-8") as file:
-        return file.read()
 
 
 def promises(page):
@@ -161,7 +157,7 @@ def amiss(page, rows, refused, unnamed):
 
 
 def main():
-    parser = argparse.ArgumentParser(description=__doc__, formatter_class=argparse.RawDescriptionHelpFormatter)
+    parser = parser_of(__doc__, runs_program=False)
     parser.add_argument("--print", action="store_true", dest="shown", help="print each promise with its wrong bodies")
     options = parser.parse_args()
     page = read(PAGE)
@@ -177,8 +173,7 @@ def main():
         return 0
     wrong = list(amiss(page, rows, refused, unnamed))
     bare = sum(1 for place in rows if place not in refused)
-    print("\n".join(wrong + ["%d promises (%d with no wrong body), %d wrong" % (len(rows), bare, len(wrong))]))
-    return int(bool(wrong))
+    return end(wrong, "%d promises (%d with no wrong body)" % (len(rows), bare))
 
 
 if __name__ == "__main__":

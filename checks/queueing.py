@@ -18,15 +18,20 @@ each figure, and exits with 1 where one fails. It needs NumPy and SciPy.
 import csv
 import math
 import pathlib
-import subprocess
 import sys
 import tempfile
 
 import numpy
 from scipy import linalg, optimize
 
+from lib.report import Report
+from lib.run import options, run
+from lib.texts import file_parts, piece, write_counted
+from lib.usage import program_of
+
 REQUESTS = 1_000_000
 PARTS = 50
+SECONDS = 300
 FILES = 1024  # service times are drawn from so many, each the mean of an equal part of the exponential distribution
 SERVICE = 20_000  # ticks, the mean
 LOAD = 0.8  # of the servers' time
@@ -56,20 +61,15 @@ def service_times():
 
 def write_site(path, times):
     """A snapshot: a file costs one tick, and one for each of its bytes."""
-    with open(path, "wb") as file:
-        file.write(b"haboob-snapshot 1\n")
-        for number, time in enumerate(times.tolist()):
-            file.write(b"file 0 4 %d\n%04d\n%s\n" % (time - 1, number, bytes(time - 1)))
-        file.write(b"end %d\n" % len(times))
+    files = ((b"%04d" % number, bytes(time - 1), 0) for number, time in enumerate(times.tolist()))
+    write_counted(path, b"haboob-snapshot 1\n", (b"".join(file_parts(*file)) for file in files), b"end")
 
 
 def write_capture(path, ticks, files):
     """A capture of requests for these files at these ticks."""
-    with open(path, "wb") as file:
-        file.write(b"haboob-capture 1 0\n")
-        for tick, number in zip(ticks.tolist(), files.tolist()):
-            file.write(b"piece %d 0 26\nGET /%04d HTTP/1.1\nHost:\n\n\n" % (tick, number))
-        file.write(b"stop %d\n" % len(ticks))
+    asked = zip(ticks.tolist(), files.tolist())
+    pieces = (piece(tick, 0, b"GET /%04d HTTP/1.1\nHost:\n\n" % number) for tick, number in asked)
+    write_counted(path, b"haboob-capture 1 0\n", pieces, b"stop")
 
 
 def waits_of(program, folder, servers, ticks, files, times):
@@ -77,9 +77,10 @@ def waits_of(program, folder, servers, ticks, files, times):
     write_site(folder / "site", times)
     write_capture(folder / "capture", ticks, files)
     (folder / "settings").write_text(SETTINGS % servers)
-    subprocess.run([program, "explain", "--snapshot", folder / "site", "--capture", folder / "capture",
-                    "--settings", folder / "settings", "--messages", folder / "table"],
-                   check=True, stdout=subprocess.DEVNULL, timeout=300)
+    words = ["explain", *options("capture", "settings", snapshot="site", messages="table")]
+    status, line, _ = run(program, words, folder, SECONDS)
+    if status:
+        sys.exit("queueing: status %d: %s" % (status, line.decode()))
     with open(folder / "table", newline="", encoding="ascii") as file:
         rows = csv.reader(file)
         place = {name: number for number, name in enumerate(next(rows))}
@@ -111,42 +112,39 @@ def steady_arrivals(servers):
     return there[servers:].sum(), SERVICE / (servers * (1 - sigma))
 
 
-def compared(name, found, expected):
-    """Compares the mean of what was found in each part with a formula; whether it agrees."""
+def see(report, name, found, expected):
+    """Compares the mean of what was found in each part with a formula."""
     error = found.std(ddof=1) / math.sqrt(len(found))
     agrees = abs(found.mean() - expected) <= ERRORS * error and error <= LARGEST_ERROR * expected
-    print("%-32s %12.4f, by the formula %12.4f, error %10.4f%s" % (
-        name, found.mean(), expected, error, "" if agrees else "  WRONG"))
-    return agrees
+    numbers = "%12.4f, by the formula %12.4f, error %10.4f" % (found.mean(), expected, error)
+    report.see(name, agrees, numbers, numbers)
 
 
-def compare(name, waits, expected):
-    """Compares the waits of a run with the share and the mean time by formulas; how many figures are wrong."""
+def compare(report, name, waits, expected):
+    """Compares the waits of a run with the share and the mean time by formulas."""
     parts = numpy.array_split(waits, PARTS)
     shares = numpy.array([(part > 0).mean() for part in parts])
     means = numpy.array([part[part > 0].mean() for part in parts])
-    return [compared(name + ": share that waits", shares, expected[0]),
-            compared(name + ": ticks that it waits", means, expected[1])].count(False)
+    see(report, name + ": share that waits", shares, expected[0])
+    see(report, name + ": ticks that it waits", means, expected[1])
 
 
 def main():
-    if len(sys.argv) != 2:
-        sys.exit(__doc__)
+    program, report = program_of(__doc__), Report(width=32)
     # four servers, by hand: B = (3.2^4/24) / (1 + 3.2 + 3.2^2/2 + 3.2^3/6 + 3.2^4/24) = .22815, and then
     # B / (1 - .8 (1 - B))
     assert abs(random_arrivals(4)[0] - 0.59644) < 1e-5
     # both formulas for one server at random: the load, and 1 / (mu - lambda)
     assert abs(random_arrivals(1)[0] - LOAD) < 1e-12
-    times, drawn, wrong = service_times(), numpy.random.default_rng(SEED), 0
+    times, drawn = service_times(), numpy.random.default_rng(SEED)
     for name, servers, formulas in (("M/M/4", 4, random_arrivals), ("D/M/2", 2, steady_arrivals)):
         gap = SERVICE / (servers * LOAD)
         gaps = drawn.exponential(gap, REQUESTS) if formulas is random_arrivals else numpy.full(REQUESTS, gap)
         ticks, files = numpy.cumsum(gaps).astype(int), drawn.integers(0, FILES, REQUESTS)
         with tempfile.TemporaryDirectory() as folder:
-            waits = waits_of(sys.argv[1], pathlib.Path(folder), servers, ticks, files, times)
-        wrong += compare(name, waits, formulas(servers))
-    print("queueing: %d wrong" % wrong)
-    return int(wrong > 0)
+            waits = waits_of(program, pathlib.Path(folder), servers, ticks, files, times)
+        compare(report, name, waits, formulas(servers))
+    return report.end("queueing: {wrong} wrong")
 
 
 if __name__ == "__main__":

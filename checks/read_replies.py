@@ -10,11 +10,13 @@ messages that asked by HEAD are given; without it a reply counts as an answer to
 byte although it tells of some. Prints how many replies were read. Exits with 1 at the first reply that is not right,
 with 2 where the text is no replies text.
 """
-import argparse
 import email.utils
 import http.client
 import io
 import sys
+
+from lib.run import contents
+from lib.usage import parser_of
 
 REASONS = {
     200: "OK",
@@ -27,16 +29,7 @@ REASONS = {
     501: "Not Implemented",
     503: "Service Unavailable",
 }
-ORDER = [
-    "Date",
-    "Content-Type",
-    "Content-Length",
-    "Last-Modified",
-    "Location",
-    "Allow",
-    "Retry-After",
-    "Connection",
-]
+ORDER = ["Date", "Content-Type", "Content-Length", "Last-Modified", "Location", "Allow", "Retry-After", "Connection"]
 
 
 class NoRepliesText(Exception):
@@ -171,15 +164,11 @@ def check_reply(number, head, stream):
 
 
 def main():
-    parser = argparse.ArgumentParser(description=__doc__.split("\n", 1)[0])
+    parser = parser_of(__doc__, runs_program=False)
     parser.add_argument("--head", default=None, help="the numbers of the messages that asked by HEAD")
-    parser.add_argument("file", nargs="?")
+    parser.add_argument("file", metavar="FILE", nargs="?")
     words = parser.parse_args()
-    if words.file is None:
-        text = sys.stdin.buffer.read()
-    else:
-        with open(words.file, "rb") as source:
-            text = source.read()
+    text = sys.stdin.buffer.read() if words.file is None else contents(words.file)
     heads = None if words.head is None else {int(n) for n in words.head.split(",") if n}
     connections = {}
     try:

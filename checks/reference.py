@@ -9,7 +9,6 @@ report, and writes the replies, or the table of decisions, to FILE. At a fault i
 error, and exits with the program's status. Settings are read by Python's tomllib, which takes a little less than the
 program (TOML 1.0).
 """
-import argparse
 import bisect
 import calendar
 import collections
@@ -22,6 +21,9 @@ import re
 import sys
 import tomllib
 import urllib.parse
+
+from lib.run import contents
+from lib.usage import parser_of
 
 # A Content-Length may have more digits than Python reads without being asked to.
 sys.set_int_max_str_digits(0)
@@ -91,18 +93,13 @@ QUEUES = "requests, 1 to 4096 for each stage: how many its queue holds"
 # Each key with what is said of it, its default, and its least and greatest value where it is a single integer.
 SETTINGS = {
     "floor": [
-        (
-            "front_cuts",
-            "steps, rising from at least 1, the last 3: how many of the front's are done where each stage ends",
-            [1, 2, 3],
-        ),
+        ("front_cuts",
+         "steps, rising from at least 1, the last 3: how many of the front's are done where each stage ends",
+         [1, 2, 3]),
         ("front_workers", THREADS, [2, 2, 2]),
         ("front_capacities", QUEUES, [64, 64, 64]),
-        (
-            "back_cuts",
-            "steps, rising from at least 1, the last 2: how many of the back's are done where each stage ends",
-            [1, 2],
-        ),
+        ("back_cuts",
+         "steps, rising from at least 1, the last 2: how many of the back's are done where each stage ends", [1, 2]),
         ("back_workers", THREADS, [2, 2]),
         ("back_capacities", QUEUES, [64, 64]),
         ("batch", "pieces, 1 to 65536: how many are read at a time", 1024, 1, 65_536),
@@ -110,74 +107,33 @@ SETTINGS = {
     ],
     "costs": [
         ("file", "microseconds, 1 to 1000000: how long the server works on a file", 200, 1, 10**6),
-        (
-            "kib",
-            "microseconds, 0 to 1000000: how long it works besides on each 1024 bytes that are given",
-            10,
-            0,
-            10**6,
-        ),
+        ("kib", "microseconds, 0 to 1000000: how long it works besides on each 1024 bytes that are given", 10, 0,
+         10**6),
         ("error", "microseconds, 1 to 1000000: how long it works on any other answer", 50, 1, 10**6),
         ("servers", "servers, 1 to 1024: how many work side by side, each on one request at a time", 1, 1, 1024),
-        (
-            "delay",
-            "microseconds, 0 to 1000000000: how long each response takes beside the server's work",
-            0,
-            0,
-            10**9,
-        ),
+        ("delay", "microseconds, 0 to 1000000000: how long each response takes beside the server's work", 0, 0, 10**9),
     ],
     "policy": [
-        (
-            "window",
-            "response times, 1 to 4096: of how many of the last ones the 90th percentile is taken",
-            100,
-            1,
-            4096,
-        ),
+        ("window", "response times, 1 to 4096: of how many of the last ones the 90th percentile is taken", 100, 1,
+         4096),
         ("every", "admitted requests, 1 to 4096: after how many the controller looks again", 100, 1, 4096),
-        (
-            "smoothing",
-            "thousandths, 0 to 999: how much of the former value stays (700 is a weight of 0.7 for the past)",
-            700,
-            0,
-            999,
-        ),
-        (
-            "rate",
-            "thousandths of a token a second, rate_min to rate_max: how fast tokens come back at first",
-            10**6,
-            1,
-            10**9,
-        ),
+        ("smoothing", "thousandths, 0 to 999: how much of the former value stays (700 is a weight of 0.7 for the past)",
+         700, 0, 999),
+        ("rate", "thousandths of a token a second, rate_min to rate_max: how fast tokens come back at first", 10**6, 1,
+         10**9),
         ("rate_min", "thousandths of a token a second, 1 to rate_max: the rate never falls below it", 50_000, 1, 10**9),
-        (
-            "rate_max",
-            "thousandths of a token a second, rate_min to 1000000000: the rate never rises above it",
-            5_000_000,
-            1,
-            10**9,
-        ),
+        ("rate_max", "thousandths of a token a second, rate_min to 1000000000: the rate never rises above it",
+         5_000_000, 1, 10**9),
         ("up", "thousandths of a token a second, 0 to 1000000000: by how much the rate rises at once", 2000, 0, 10**9),
-        (
-            "down",
-            "hundredths, 101 to 10000: what the rate is divided by where it falls (120 divides it by 1.2)",
-            120,
-            101,
-            10_000,
-        ),
+        ("down", "hundredths, 101 to 10000: what the rate is divided by where it falls (120 divides it by 1.2)", 120,
+         101, 10_000),
         ("target", "microseconds, 1 to 1000000000000: above this response time the rate falls", 100_000, 1, 10**12),
         ("low", "percent of the target, 0 to 100: below this part of it the rate rises", 90, 0, 100),
         ("depth", "tokens, 1 to 1000000: how many the bucket holds; it starts full", 100, 1, 10**6),
     ],
     "page": [
-        (
-            "retry_after",
-            "seconds, 0 to 86400: after how long a rejected request may be tried again (Retry-After)",
-            1,
-            0,
-            86_400,
-        ),
+        ("retry_after", "seconds, 0 to 86400: after how long a rejected request may be tried again (Retry-After)", 1, 0,
+         86_400),
     ],
 }
 
@@ -213,11 +169,9 @@ DATE_PARTS = {
 }
 DATE_FORMATS = [
     re.compile((text % DATE_PARTS).encode())
-    for text in (
-        r"%(short)s, (?P<day>\d\d) %(month)s (?P<year>\d{4}) %(time)s GMT",
-        r"%(long)s, (?P<day>\d\d)-%(month)s-(?P<year>\d\d) %(time)s GMT",
-        r"%(short)s %(month)s (?P<day>\d\d| \d) %(time)s (?P<year>\d{4})",
-    )
+    for text in (r"%(short)s, (?P<day>\d\d) %(month)s (?P<year>\d{4}) %(time)s GMT",
+                 r"%(long)s, (?P<day>\d\d)-%(month)s-(?P<year>\d\d) %(time)s GMT",
+                 r"%(short)s %(month)s (?P<day>\d\d| \d) %(time)s (?P<year>\d{4})")
 ]
 
 
@@ -1106,14 +1060,8 @@ def explain(snapshot, capture, settings=b"", speed=100):
     return run(tell_rows, snapshot, capture, settings, speed)
 
 
-def contents(name):
-    """The bytes of a file."""
-    with open(name, "rb") as file:
-        return file.read()
-
-
 def main():
-    parser = argparse.ArgumentParser(description=__doc__.split("\n", 1)[0])
+    parser = parser_of(__doc__, runs_program=False)
     told = parser.add_mutually_exclusive_group()
     told.add_argument("--replies", help="the file that the replies are written to")
     told.add_argument("--messages", help="the file that the table of decisions is written to")

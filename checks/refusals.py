@@ -25,9 +25,11 @@ import os
 import re
 import sys
 
-import rattle_syntax
+from lib import rattle_syntax
+from lib.report import end
+from lib.sources import TOP, read
+from lib.usage import parser_of
 
-TOP = os.path.dirname(os.path.dirname(os.path.abspath(__file__)))
 # The allocator's own errors; and the names of an answer "out of memory": these, variants and a constant.
 OWN_ERRORS = {"AllocError", "AllocFailed", "Memory"}
 NAMES = OWN_ERRORS | {"NoMemory", "MEMORY", "OutOfMemory"}
@@ -369,15 +371,14 @@ def read_all():
     for path in sorted(glob.glob(os.path.join(TOP, "crates", "*", "src", "**", "*.rt"), recursive=True)):
         name = os.path.relpath(path, os.path.join(TOP, "crates"))
         if not crate_of(name).endswith("_tests") and crate_of(name) != "test_support":
-            with open(path, encoding="utf-8") as file:
-                texts[name] = file.read()
+            texts[name] = read(path)
     return texts
 
 
 def main():
+    parser_of(__doc__, runs_program=False).parse_args()
     wrong, count, known = judged(read_all())
-    print("\n".join(wrong + ["%d places (%d listed), %d wrong" % (count, known, len(wrong))]))
-    return int(bool(wrong))
+    return end(wrong, "%d places (%d listed)" % (count, known))
 
 
 if __name__ == "__main__":

@@ -9,7 +9,6 @@ its picture and apart from the others; the lines of a picture must differ withou
 were sent. --keep leaves the pictures of the screen, to be looked at. Exits with 1 where something is wrong. It needs
 Debian's chromium, chromium-driver and python3-selenium, and says so where one isn't there.
 """
-import argparse
 import pathlib
 import shutil
 import subprocess
@@ -22,7 +21,10 @@ try:
 except ImportError:
     sys.exit("needs selenium: apt-get install chromium chromium-driver python3-selenium")
 
-TOOLS = pathlib.Path(__file__).resolve().parent.parent / "tools"
+from lib.report import Report
+from lib.sources import TOP
+from lib.usage import parser_of
+
 HEADING = "number,connection,tick,tier,status,decision,service,credit,rate,start,finish,waited,method,target\n"
 SECOND = 1_000_000
 DAY = 86_400
@@ -78,8 +80,9 @@ def page_in(folder):
     table.write_text(HEADING + "".join(rows()))
     capture.write_text("haboob-capture 2 784111777\nstop 0\n")
     settings.write_text("[policy]\ntarget = 120000\n[tier1]\ntarget = 60000\n")
-    subprocess.run(["/usr/bin/python3", TOOLS / "timeline.py", "--capture", capture, "--settings", settings, "--output",
-                    page, table], check=True)
+    tool = pathlib.Path(TOP, "tools", "timeline.py")
+    subprocess.run(["/usr/bin/python3", tool, "--capture", capture, "--settings", settings, "--output", page, table],
+                   check=True)
     return page
 
 
@@ -132,8 +135,8 @@ def faults_of_page(found):
         yield from ("%s: %s" % (picture["title"], fault) for fault in faults_of_picture(picture))
 
 
-def look(page, name, keep):
-    """How many faults a page has in a window."""
+def look(report, page, name, keep):
+    """Looks at a page in a window."""
     driver = browser(SIZES[name])
     try:
         driver.execute_cdp_cmd("Emulation.setDeviceMetricsOverride", {
@@ -149,14 +152,13 @@ def look(page, name, keep):
         driver.quit()
     faults = list(faults_of_page(found))
     for fault in faults:
-        print("%s: WRONG: %s" % (name, fault))
+        report.tell_wrong("%s: WRONG: %s" % (name, fault))
     print("%s: %d pictures, %d labels, %d wrong" % (
         name, len(found["pictures"]), sum(len(picture["labels"]) for picture in found["pictures"]), len(faults)))
-    return len(faults)
 
 
 def main():
-    parser = argparse.ArgumentParser(description=__doc__, formatter_class=argparse.RawDescriptionHelpFormatter)
+    parser, report = parser_of(__doc__, runs_program=False), Report()
     parser.add_argument("--keep", metavar="FOLDER", help="where pictures of the screen go")
     options = parser.parse_args()
     missing = [name for name in ("chromium", "chromedriver") if not shutil.which(name)]
@@ -164,7 +166,9 @@ def main():
         sys.exit("needs %s: apt-get install chromium chromium-driver python3-selenium" % " and ".join(missing))
     with tempfile.TemporaryDirectory() as folder:
         page = page_in(pathlib.Path(folder))
-        return int(sum(look(page, name, options.keep) for name in SIZES) > 0)
+        for name in SIZES:
+            look(report, page, name, options.keep)
+    return int(report.wrong > 0)
 
 
 if __name__ == "__main__":

@@ -1,7 +1,7 @@
 #!/usr/bin/env python3
 """Replays on the staged engine while all cores are busy, and compares what it writes with the plain engine's.
 
-    checks/under_load.py [--first SEED] [--seconds N] [--busy N] PROGRAM [COUNT]
+    checks/under_load.py PROGRAM [COUNT] [--first SEED] [--seconds N] [--busy N]
 
 COUNT replays (1,000 without it) are drawn at random as those of compare_replays.py are, with their cuts, workers,
 capacities, batches and caches; a fourth has a fault in its capture. Each tenth seed gives a heavy one besides, whose
@@ -10,13 +10,12 @@ that threads lose their core at any place. A run that takes longer than --second
 Prints each such run, and each that differs, with its seed, and then how many there were. Exits with 1 where there was
 one.
 """
-import argparse
 import multiprocessing
 import os
 import sys
 
-# The folder stays as it is.
-sys.dont_write_bytecode = True
+from lib.run import HANGS
+from lib.usage import parser_of
 import compare_replays
 
 FAULTS = ("", "", "", "capture")
@@ -44,7 +43,7 @@ def is_same(program, name, texts, seconds):
     """Whether the staged engine answers as the plain one; None where it hangs."""
     plain = compare_replays.run_replay(program, ["--engine", "plain"], *texts)
     staged = compare_replays.run_replay(program, ["--engine", "staged"], *texts, seconds)
-    if staged[0] == compare_replays.HANGS:
+    if staged[0] == HANGS:
         print("%s: HUNG" % name, flush=True)
         return None
     found = compare_replays.difference(compare_replays.PARTS["replay"], plain, staged)
@@ -54,19 +53,17 @@ def is_same(program, name, texts, seconds):
 
 
 def main():
-    parser = argparse.ArgumentParser(description=__doc__, formatter_class=argparse.RawDescriptionHelpFormatter)
-    parser.add_argument("program")
-    parser.add_argument("count", nargs="?", type=int, default=1000)
+    parser = parser_of(__doc__)
+    parser.add_argument("count", metavar="COUNT", nargs="?", type=int, default=1000, help="1000 without it")
     parser.add_argument("--first", type=int, default=0, metavar="SEED", help="the first seed; 0 without it")
     parser.add_argument("--seconds", type=float, default=300, metavar="N", help="the longest that a run may take")
     parser.add_argument("--busy", type=int, default=os.cpu_count(), metavar="N", help="processes that keep cores busy")
     options = parser.parse_args()
-    program = os.path.abspath(options.program)
     busy = [multiprocessing.Process(target=count_on, args=(os.getpid(),), daemon=True) for _ in range(options.busy)]
     for process in busy:
         process.start()
     seeds = range(options.first, options.first + options.count)
-    results = [is_same(program, name, texts, options.seconds) for name, texts in replays(seeds)]
+    results = [is_same(options.program, name, texts, options.seconds) for name, texts in replays(seeds)]
     hung, differing = results.count(None), results.count(False)
     print("%d runs with %d busy processes: %d hung, %d differing" % (len(results), options.busy, hung, differing))
     return int(hung + differing > 0)

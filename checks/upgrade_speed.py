@@ -1,39 +1,34 @@
 #!/usr/bin/env python3
 """Upgrades a capture of 1 GiB, the largest there is, and measures its time beside `cat`, and its peak of memory.
 
-    checks/upgrade_speed.py [--bytes N] [--piece N] [--folder FOLDER] PROGRAM
+    checks/upgrade_speed.py PROGRAM [--bytes N] [--piece N] [--folder FOLDER]
 
 Prints one line. Exits with 1 where the output isn't the capture with the version 2 in its first line, or where the peak
 is more than 1 MiB above that of a small capture: an upgrade holds one record at a time. It needs 2 GiB in the folder
 while it runs. Run it on a machine that does nothing else.
 """
-import argparse
 import os
 import subprocess
 import sys
 import tempfile
 import time
 
-FIRST_LINE = b"haboob-capture %d 784111777\n"
-REQUEST = b"GET /a.txt HTTP/1.1\r\nHost: a\r\n\r\n"
+from lib.texts import HEADER, HEADER_TWO, REQUEST, piece, write_counted
+from lib.usage import parser_of
+
 LARGEST = 2**30
 SMALL = 2**24
 LAST_LINE_ROOM = 32
 BLOCK = 2**20
 
 
-def write_capture(path, size, piece):
-    """Writes a capture of version 1 of at most this size, in pieces of so many bytes; the bytes that it has."""
-    body = (REQUEST * (piece // len(REQUEST) + 1))[:piece]
-    written, count = len(FIRST_LINE % 1), 0
-    with open(path, "wb") as file:
-        file.write(FIRST_LINE % 1)
-        while True:
-            record = b"piece %d %d %d\n%b\n" % (count, count % 4096, piece, body)
-            if written + len(record) + LAST_LINE_ROOM > size:
-                break
-            written, count = written + file.write(record), count + 1
-        return written + file.write(b"stop %d\n" % count)
+def pieces(size, length):
+    """Pieces of so many bytes, of which a capture of at most this size has room."""
+    body = (REQUEST * (length // len(REQUEST) + 1))[:length]
+    room, count = size - len(HEADER) - LAST_LINE_ROOM, 0
+    while len(record := piece(count, count % 4096, body)) <= room:
+        yield record
+        room, count = room - len(record), count + 1
 
 
 def peak_now(process):
@@ -61,31 +56,29 @@ def run(words, output=None):
 def is_upgraded(capture, output):
     """Whether the output is the capture with another version."""
     with open(capture, "rb") as old, open(output, "rb") as new:
-        same = old.readline() == FIRST_LINE % 1 and new.readline() == FIRST_LINE % 2
+        same = old.readline() == HEADER and new.readline() == HEADER_TWO
         while same and (block := old.read(BLOCK)):
             same = new.read(BLOCK) == block
         return same and new.read(1) == b""
 
 
-def upgrade(program, folder, size, piece):
+def upgrade(program, folder, size, length):
     """The names of a capture and of its upgraded text; the bytes, the seconds and the peak of memory."""
     capture, output = os.path.join(folder, "capture"), os.path.join(folder, "output")
-    written = write_capture(capture, size, piece)
+    write_counted(capture, HEADER, pieces(size, length), b"stop")
     seconds, peak = run([program, "upgrade", "--capture", capture, "--output", output])
-    return capture, output, written, seconds, peak
+    return capture, output, os.path.getsize(capture), seconds, peak
 
 
 def main():
-    parser = argparse.ArgumentParser(description=__doc__, formatter_class=argparse.RawDescriptionHelpFormatter)
-    parser.add_argument("program")
+    parser = parser_of(__doc__)
     parser.add_argument("--bytes", type=int, default=LARGEST, help="the size of the capture; %d without it" % LARGEST)
     parser.add_argument("--piece", type=int, default=1024, help="the bytes of each piece, 1 to 65536; 1024 without it")
     parser.add_argument("--folder", help="where the files stand; without it a folder for temporary files")
     options = parser.parse_args()
-    program = os.path.abspath(options.program)
     with tempfile.TemporaryDirectory(dir=options.folder) as folder:
-        *_, small_peak = upgrade(program, folder, SMALL, options.piece)
-        capture, output, size, seconds, peak = upgrade(program, folder, options.bytes, options.piece)
+        *_, small_peak = upgrade(options.program, folder, SMALL, options.piece)
+        capture, output, size, seconds, peak = upgrade(options.program, folder, options.bytes, options.piece)
         good = is_upgraded(capture, output)
         copied, _ = run(["cat", capture], output)
     print(

@@ -11,7 +11,6 @@ that the model can tell. The functions that the model mirrors are known by a has
 to be looked at first, and then MIRRORED be set to what --mirrored prints. Exits with 1 where something is otherwise. It
 takes about half a minute on four cores.
 """
-import argparse
 import concurrent.futures
 import hashlib
 import os
@@ -20,7 +19,10 @@ import subprocess
 import sys
 import tempfile
 
-TOP = os.path.dirname(os.path.dirname(os.path.abspath(__file__)))
+from lib.report import end
+from lib.sources import TOP, read
+from lib.usage import parser_of
+
 CRATE = os.path.join(TOP, "crates", "stage_graph")
 MODEL = os.path.join(CRATE, "model", "crew.pml")
 SOURCES = ["run.rt", "crew.rt", "crew/desk.rt", "crew/sections.rt", "floor/causes.rt", "floor/events.rt",
@@ -58,9 +60,8 @@ def mirrored():
     """A hash of the functions that the model mirrors, without comments and contracts."""
     text = ""
     for name in SOURCES:
-        with open(os.path.join(CRATE, "src", name), encoding="utf-8") as file:
-            for found in FUNCTION.finditer(file.read()):
-                text += re.sub(r" *//[^\n]*", "", CLAUSE.sub("", found[0]))
+        for found in FUNCTION.finditer(read(os.path.join(CRATE, "src", name))):
+            text += re.sub(r" *//[^\n]*", "", CLAUSE.sub("", found[0]))
     return hashlib.sha256("".join(text.split()).encode()).hexdigest()[:16]
 
 
@@ -83,7 +84,7 @@ def explore(floor, fault=None):
 
 
 def main():
-    parser = argparse.ArgumentParser(description=__doc__, formatter_class=argparse.RawDescriptionHelpFormatter)
+    parser = parser_of(__doc__, runs_program=False)
     parser.add_argument("--mirrored", action="store_true", help="print the hash of the functions that are mirrored")
     if parser.parse_args().mirrored:
         print(mirrored())
@@ -98,8 +99,7 @@ def main():
         if is_good != (fault is None):
             said = {True: "no hang", False: "a hang", None: "not explored to its end"}[is_good]
             wrong.append("%s%s: %s" % (floor, " with " + fault if fault else "", said))
-    print("\n".join(wrong + ["%d floors, %d faults, %d wrong" % (len(FLOORS), len(FAULTS), len(wrong))]))
-    return int(bool(wrong))
+    return end(wrong, "%d floors, %d faults" % (len(FLOORS), len(FAULTS)))
 
 
 if __name__ == "__main__":

@@ -13,15 +13,11 @@ import os
 import re
 import sys
 
-TOP = os.path.dirname(os.path.dirname(os.path.abspath(__file__)))
-PAGE = os.path.join(TOP, "docs", "ARCHITECTURE.md")
+from lib.sources import TOP, read
+from lib.usage import parser_of
+
 STOP = re.compile(r"^    (?P<indent>(?:\. )*)(?:(?P<file>[\w/]+\.rt) )?(?P<function>\w+)$", re.MULTILINE)
 FUNCTION = r"^(?P<indent> *)(?:pub(?:\([a-z]+\))? )?fn %s\b.*?^(?P=indent)\}$"
-
-
-def read(path):
-    with open(path, encoding="utf-8") as file:
-        return file.read()
 
 
 def stops(page):
@@ -36,8 +32,7 @@ def stops(page):
 
 def bodies(path, function):
     """The texts of the functions of this name in a file, with their contracts."""
-    text = read(os.path.join(TOP, path))
-    return [found[0] for found in re.finditer(FUNCTION % function, text, re.MULTILINE | re.DOTALL)]
+    return [found[0] for found in re.finditer(FUNCTION % function, read(path), re.MULTILINE | re.DOTALL)]
 
 
 def amiss(way):
@@ -71,9 +66,11 @@ def figures(way):
 
 
 def main():
-    page = read(PAGE)
+    parser = parser_of(__doc__, runs_program=False)
+    parser.add_argument("--print", action="store_true", dest="shown", help="print the stops with their numbers")
+    options, page = parser.parse_args(), read("docs/ARCHITECTURE.md")
     way = stops(page)
-    if sys.argv[1:] == ["--print"]:
+    if options.shown:
         for number, (depth, path, name) in enumerate(way, 1):
             print("%2d  %s%s: %s" % (number, "  " * depth, path, name))
     counted, wrong = figures(way), list(amiss(way))

@@ -1,7 +1,7 @@
 #!/usr/bin/env python3
 """Measures the peak of memory of both engines and of upgrades on the worst inputs, and compares each with a formula.
 
-    checks/worst_memory.py [--folder FOLDER] [--only WORD] PROGRAM
+    checks/worst_memory.py PROGRAM [--folder FOLDER] [--only WORD]
 
 The formula adds up what a run keeps at a time, in bytes. All runs:
 
@@ -28,13 +28,15 @@ An upgrade keeps what the program does, and no more. Peaks are those that the sy
 run also fails where its status is another than is known. It takes some minutes, and 2 GiB in the folder. Exits with 1
 where a peak is above the formula.
 """
-import argparse
-import json
 import os
 import resource
-import subprocess
 import sys
 import tempfile
+
+from lib.report import Report
+from lib.run import limit, options, put, run_measured
+from lib.texts import ONE, REQUEST, TIME, TWO, file_parts, piece, write_counted
+from lib.usage import parser_of
 
 MIB = 2**20
 BASE = 8 * MIB
@@ -43,22 +45,11 @@ SECONDS = 1800
 # More address space than the formula gives bytes: stacks and arenas take much of which little is used.
 SPACE = 16 * 2**30
 
-# A process of its own starts the program: the peak of a child begins with that of its parent.
-RUNNER = """
-import json, os, sys
-child = os.fork()
-if child == 0:
-    os.execv(sys.argv[1], sys.argv[1:])
-_, status, used = os.wait4(child, 0)
-sys.stderr.write("\\n" + json.dumps([os.waitstatus_to_exitcode(status), used.ru_maxrss * 1024]))
-"""
-
 PLAIN, STAGED = ["--engine", "plain"], []
 DEFAULT_WORKERS = 10
 DEFAULT_CACHE = 64 * MIB
 DEFAULT_BATCH = 1024
 FILE = [(b"a.txt", b"hi\n")]
-REQUEST = b"GET /a.txt HTTP/1.1\r\nHost: a\r\n\r\n"
 SHORTEST = b"A / HTTP/1.1\nHost:\n\n"
 # A piece holds some more than 2,048 of these, so that the list of its messages has room for nearly twice as many.
 UNEVEN = b"GET /a.tx HTTP/1.1\r\nHost: a\r\n\r\n"
@@ -86,24 +77,13 @@ class Input:
 
     def write(self, folder):
         """Writes the texts into the folder; the bytes of the snapshot."""
-        with open(os.path.join(folder, "snapshot"), "wb") as file:
-            file.write(b"haboob-snapshot 1\n")
-            count = 0
-            for name, data in self.files() if callable(self.files) else self.files:
-                file.write(b"file 0 %d %d\n%b\n%b\n" % (len(name), len(data), name, data))
-                count += 1
-            file.write(b"end %d\n" % count)
-            size = file.tell()
-        with open(os.path.join(folder, "capture"), "wb") as file:
-            file.write(b"haboob-capture %d 784111777\n" % self.version)
-            records = 0
-            for record in self.records():
-                file.write(record)
-                records += 1
-            file.write(b"stop %d\n" % records)
-        with open(os.path.join(folder, "settings"), "wb") as file:
-            file.write(self.settings)
-        return size, count
+        path = os.path.join(folder, "snapshot")
+        files = self.files() if callable(self.files) else self.files
+        count = write_counted(path, b"haboob-snapshot 1\n", (b"".join(file_parts(*file, 0)) for file in files), b"end")
+        begin = ONE if self.version == 1 else TWO
+        write_counted(os.path.join(folder, "capture"), b"%s%d\n" % (begin, TIME), self.records(), b"stop")
+        put(folder, {"settings": self.settings})
+        return os.path.getsize(path), count
 
     def bound(self, engine, snapshot, files, report):
         """The formula."""
@@ -119,17 +99,13 @@ class Input:
         return total
 
 
-def piece(conn, data, tick=0):
-    return b"piece %d %d %d\n%b\n" % (tick, conn, len(data), data)
-
-
 def unfinished(count):
     """Connections that each send 8,191 bytes of a block, the last of them in a piece of its own."""
     block = b"GET /" + b"a" * 8186
     for conn in range(count):
-        yield piece(conn, block[:-1])
+        yield piece(0, conn, block[:-1])
     for conn in range(count):
-        yield piece(conn, block[-1:])
+        yield piece(0, conn, block[-1:])
 
 
 def bodies(count, sent):
@@ -137,8 +113,8 @@ def bodies(count, sent):
     front, rest = b"POST /", b" HTTP/1.1\r\nHost: a\r\nContent-Length: 65536\r\n\r\n"
     head = front + b"a" * (8192 - len(front) - len(rest)) + rest
     for conn in range(count):
-        yield piece(conn, head[:-1])
-        yield piece(conn, head[-1:] + b"b" * sent)
+        yield piece(0, conn, head[:-1])
+        yield piece(0, conn, head[-1:] + b"b" * sent)
 
 
 def ends(count):
@@ -152,8 +128,8 @@ def tiers(count):
 def empty_lines(count):
     """Connections that each send 65,535 bytes of empty lines, after the beginning of one in a piece of its own."""
     for conn in range(count):
-        yield piece(conn, b"\r")
-        yield piece(conn, b"\n" * 65_535)
+        yield piece(0, conn, b"\r")
+        yield piece(0, conn, b"\n" * 65_535)
 
 
 def requests(request, count, service=0):
@@ -161,7 +137,7 @@ def requests(request, count, service=0):
     before it."""
     most = MOST_PIECE // len(request)
     for done in range(0, count, most):
-        yield piece(0, request * min(most, count - done), done * service)
+        yield piece(done * service, 0, request * min(most, count - done))
 
 
 def in_batch(request, count):
@@ -178,7 +154,7 @@ def each_file():
     """A request for each of these files."""
     for first in range(0, 65_536, 2048):
         names = range(first, first + 2048)
-        yield piece(0, b"".join(b"GET /%05d HTTP/1.1\r\nHost: a\r\n\r\n" % number for number in names))
+        yield piece(0, 0, b"".join(b"GET /%05d HTTP/1.1\r\nHost: a\r\n\r\n" % number for number in names))
 
 
 def large_files(count):
@@ -188,7 +164,8 @@ def large_files(count):
 
 def each_large_file(count, times):
     """Requests for each of these files, so often, in turn."""
-    yield piece(0, b"".join(b"GET /%02d.txt HTTP/1.1\r\nHost: a\r\n\r\n" % number for number in range(count)) * times)
+    asked = (b"GET /%02d.txt HTTP/1.1\r\nHost: a\r\n\r\n" % number for number in range(count))
+    yield piece(0, 0, b"".join(asked) * times)
 
 
 def page_of(size):
@@ -250,53 +227,41 @@ def inputs():
 def run(program, words, folder, bound):
     """The status and the peak of a run, and the bytes that it wrote to standard output, but for the lines of rejected
     requests."""
-    def limit():
-        resource.setrlimit(resource.RLIMIT_AS, (bound + SPACE, bound + SPACE))
     with open(os.path.join(folder, "out"), "wb") as out:
-        ran = subprocess.run([sys.executable, "-I", "-S", "-c", RUNNER, program, *words], cwd=folder, preexec_fn=limit,
-                             stdin=subprocess.DEVNULL, stdout=out, stderr=subprocess.PIPE, timeout=SECONDS)
-    status, peak = json.loads(ran.stderr.splitlines()[-1])
+        (status, *_), peak = run_measured(program, words, folder, SECONDS, stdout=out,
+                                          preexec_fn=limit(resource.RLIMIT_AS, bound + SPACE))
     with open(os.path.join(folder, "out"), "rb") as out:
         return status, peak, sum(len(line) for line in out if not line.startswith(b"reject "))
 
 
-def told(name, status, wanted, peak, bound):
-    """Prints a line; whether it is wrong."""
-    wrong = status != wanted or peak > bound
-    text = "%-52s status %d, peak %7.1f MiB of %7.1f%s"
-    print(text % (name, status, peak / MIB, bound / MIB, ": WRONG" * wrong), flush=True)
-    return wrong
+def see(report, name, status, wanted, peak, bound):
+    """Tells the peak of a run, and whether it is one that may be."""
+    numbers = "status %d, peak %7.1f MiB of %7.1f" % (status, peak / MIB, bound / MIB)
+    report.see(name, status == wanted and peak <= bound, numbers, numbers)
 
 
-def measure(program, given, folder):
-    """Runs an input on both engines and upgrades its capture; how many of the three are wrong."""
+def measure(report, program, given, folder):
+    """Runs an input on both engines, and upgrades its capture."""
     snapshot, files = given.write(folder)
-    named = [word for name in ("snapshot", "capture", "settings") for word in ("--" + name, name)]
-    words = ["replay", *named, "--replies", os.devnull]
-    wrong = 0
+    words = ["replay", *options("snapshot", "capture", "settings", replies=os.devnull)]
     for name, engine in (("plain", PLAIN), ("staged", STAGED)):
-        status, peak, report = run(program, words + engine, folder, given.bound(engine, snapshot, files, 0))
-        bound = given.bound(engine, snapshot, files, report)
-        wrong += told("%s, %s" % (given.name, name), status, given.status, peak, bound)
-    status, peak, _ = run(program, ["upgrade", "--capture", "capture", "--output", os.devnull], folder, 0)
-    return wrong + told("%s, upgrade" % given.name, status, 0, peak, BASE)
+        status, peak, told = run(program, words + engine, folder, given.bound(engine, snapshot, files, 0))
+        see(report, "%s, %s" % (given.name, name), status, given.status, peak,
+            given.bound(engine, snapshot, files, told))
+    status, peak, _ = run(program, ["upgrade", *options("capture", output=os.devnull)], folder, 0)
+    see(report, "%s, upgrade" % given.name, status, 0, peak, BASE)
 
 
 def main():
-    parser = argparse.ArgumentParser(description=__doc__, formatter_class=argparse.RawDescriptionHelpFormatter)
-    parser.add_argument("program")
+    parser = parser_of(__doc__)
     parser.add_argument("--folder", help="where the files stand; without it a folder for temporary files")
     parser.add_argument("--only", default="", metavar="WORD", help="the inputs whose name has this word")
-    options = parser.parse_args()
-    program = os.path.abspath(options.program)
-    wrong, count = 0, 0
-    with tempfile.TemporaryDirectory(dir=options.folder) as folder:
+    words, report = parser.parse_args(), Report(width=52)
+    with tempfile.TemporaryDirectory(dir=words.folder) as folder:
         for given in inputs():
-            if options.only in given.name:
-                wrong += measure(program, given, folder)
-                count += 3
-    print("%d runs, %d wrong" % (count, wrong))
-    return int(wrong > 0)
+            if words.only in given.name:
+                measure(report, words.program, given, folder)
+    return report.end("{runs} runs, {wrong} wrong")
 
 
 if __name__ == "__main__":

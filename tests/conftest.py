@@ -5,10 +5,12 @@ import sys
 
 import pytest
 
-sys.path.insert(0, os.path.dirname(os.path.abspath(__file__)))
+HERE = os.path.dirname(os.path.abspath(__file__))
+TOP = os.path.dirname(HERE)
+sys.path[:0] = [HERE, os.path.join(TOP, "checks")]
 from rows import Row, read_table
 
-BUILT = os.path.join(os.path.dirname(os.path.dirname(os.path.abspath(__file__))), "crates", "haboob", "out", "haboob")
+BUILT = os.path.join(TOP, "crates", "haboob", "out", "haboob")
 
 
 def pytest_addoption(parser):

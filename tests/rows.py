@@ -1,9 +1,10 @@
 """Reads the rows of tests/*.toml, runs the program as they say, and compares what came of it (README.md)."""
 import os
 import re
-import subprocess
-import tempfile
 import tomllib
+
+from lib.run import run_over, without_words
+from lib.texts import ONE, TRAFFIC, recording_text
 
 HERE = os.path.dirname(os.path.abspath(__file__))
 SECONDS = 240
@@ -30,10 +31,6 @@ ENDS = {
 }
 KEYS = {"name", "command", "words", "engines", "texts", "files", "pieces", "bytes", "cut", "sizes", "stdin", "each_cut",
         "status", "error", "prints", "lines", "columns", "writes", "messages", "outline", "parts", "absent"}
-# A fault's line, and the line of words that may follow it: rows compare the words where they have a second line.
-IN_WORDS = re.compile(
-    r"(haboob: (?:(?:open|read): \w+|engine|format|speed|settings: .+|(?:capture: record|snapshot: entry) 0: \w+)\n)"
-    r"haboob: .+\n")
 MARK = re.compile(r"\$\{(?:'([^']*)'|(\w+))(?: \* (\d+))?\}")
 
 
@@ -51,11 +48,10 @@ def merged(below, above):
     return both
 
 
-def capture_text(pieces, first="haboob-capture 1"):
+def capture_text(pieces, begin=ONE):
     """The capture of these pieces, each with its tick, its connection and its bytes."""
-    parts = [first + " 784111777\n"]
-    parts += ["piece %d %d %d\n%s\n" % (tick, conn, len(text), text) for tick, conn, text in pieces]
-    return "".join(parts) + "stop %d\n" % len(pieces)
+    records = [(tick, conn, text.encode("latin-1")) for tick, conn, text in pieces]
+    return recording_text(records, begin).decode("latin-1")
 
 
 def cut_text(text, sizes):
@@ -70,7 +66,7 @@ def slim_text(messages, length, sizes):
     for conn, size in enumerate(sizes):
         pieces += [(tick + (end - 1) // size, conn, block) for end, block in messages]
         tick += -(-length // size)
-    return capture_text(pieces, "haboob-traffic 1")
+    return capture_text(pieces, TRAFFIC)
 
 
 def outline(replies):
@@ -167,7 +163,8 @@ class Row:
 
         see("status", status, wanted.get("status", 0))
         line = self.text(wanted["error"]) + "\n" if wanted.get("error") else ""
-        see("standard error", error if line.count("\n") > 1 else IN_WORDS.sub(r"\1", error), line)
+        # rows compare the words after a fault's line where they have a second line
+        see("standard error", error if line.count("\n") > 1 else without_words(error), line)
         if status == 0:
             ends = [(name, files.get(name, "") if name else printed, form)
                     for name, form in ENDS.get(self.values.get("command"), [])]
@@ -198,20 +195,10 @@ class Row:
 def run(program, words, files, given):
     """Runs the program in a folder with these files: its status, what it told on standard error and on standard output,
     and the files that stand there afterwards. A text's characters are its bytes."""
-    with tempfile.TemporaryDirectory() as folder:
-        for name, text in files.items():
-            path = os.path.join(folder, name)
-            os.makedirs(os.path.dirname(path), exist_ok=True)
-            with open(path, "wb") as file:
-                file.write(text.encode("latin-1"))
-        ran = subprocess.run([program, *words], cwd=folder, input=given.encode("latin-1"), capture_output=True,
-                             timeout=SECONDS, check=False)
-        after = {}
-        for path, _, names in os.walk(folder):
-            for name in names:
-                with open(os.path.join(path, name), "rb") as file:
-                    after[os.path.relpath(os.path.join(path, name), folder)] = file.read().decode("latin-1")
-    return ran.returncode, ran.stderr.decode("latin-1"), ran.stdout.decode("latin-1"), after
+    files = {name: text.encode("latin-1") for name, text in files.items()}
+    status, *told, after = run_over(program, words, files, seconds=SECONDS, input=given.encode("latin-1"))
+    error, printed = (text.decode("latin-1") for text in told)
+    return status, error, printed, {name: data.decode("latin-1") for name, data in after.items() if data is not None}
 
 
 def spread(values):
