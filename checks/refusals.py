@@ -50,18 +50,18 @@ CALLS = {
 }
 STICKY = "a cutter that was refused memory answers so from then on"
 REASONS = {
+    ("faults/src/fault.rt", "reported", "Fault::Settings(_) | Fault::Memory => Reported::Memory,"):
+        "an arm above takes all faults of the settings but this one",
     ("http_requests/src/cutting.rt", "cut", "CutterState::Failed => Err(AllocError),"): STICKY,
     ("http_requests/src/cutting.rt", "feed", "return Err(AllocError);"): STICKY,
     ("paths/src/name_index.rt", "make_slots", "None => Err(AllocError),"):
         "more slots than a number counts; the index stays empty, and no call answers so",
-    ("program/src/fault.rt", "reported", "Fault::Settings(_) | Fault::Memory => Reported::Memory,"):
-        "an arm above takes all faults of the settings but this one",
-    ("program/src/running.rt", "told", "Err(Fault::Memory)"):
-        "a buffer whose device didn't fail refuses bytes where there is no memory for them alone",
-    ("program/src/snapshotting.rt", "unwritten", "_ => Fault::Memory,"):
-        "the writer has no other fault left, by its contract",
     ("replay/src/parts.rt", "of_unrun", "ReplayFault::Memory"):
         "a floor has no run where memory or threads were refused; a step stops it where it was refused memory",
+    ("runs/src/running.rt", "told", "Err(Fault::Memory)"):
+        "a buffer whose device didn't fail refuses bytes where there is no memory for them alone",
+    ("runs/src/snapshotting.rt", "unwritten", "_ => Fault::Memory,"):
+        "the writer has no other fault left, by its contract",
     ("settings/src/config.rt", "default_settings", "Err(_) => Err(AllocError),"):
         "the defaults break no rule, so no other fault is left",
     ("settings/src/config_fault.rt", "MEMORY", "kind: ConfigFaultKind::Memory,"): "the name of this answer",

@@ -76,7 +76,7 @@ WRONG = [
     ("one of two calls", "program/src/replaying.rt", ROOMS, ROOMS.replace("Vec::with_capacity", "first_of", 1)),
     ("one of two successes", "program/src/replaying.rt", "(Ok(waiting), Ok(report_waiting))",
      "(Ok(waiting), Some(report_waiting))"),
-    ("another call", "program/src/snapshotting.rt", REFUSED_NAME,
+    ("another call", "runs/src/snapshotting.rt", REFUSED_NAME,
      REFUSED_NAME.replace("FolderFault::new(alloc, ", "folder.read(")),
     ("another type's call of the name", "paths/src/reading.rt", "let mut files = Snapshot::new(alloc);",
      "let mut files = Queue::new(alloc);"),

@@ -9,27 +9,18 @@
 //! by the status that the program ends with. A long run shows its progress there, where it is a terminal.
 #![tactic(auto)]
 
-mod cursor;
-mod explained;
-mod files;
-mod folder;
-mod looks;
-mod open_folder;
-mod opening;
-mod overwritten;
-mod source;
+mod replays;
 
 use captures::Version;
 use command_line::{Job, Target, WordFault, read_words};
 use devices::Output;
-use explained::Explained;
-use files::{
-    bundle, inspect_named, replay_named, settings_named, slim_named, snapshot_named, upgrade_named,
+use faults::{Fault, Place, shown_name};
+use host::{
+    EMPTY_LINE, Explained, Names, Node, STANDARD_OUTPUT, inspect_named, settings_named, slim_named,
+    snapshot_named, upgrade_named,
 };
-use opening::Names;
-use overwritten::{Node, STANDARD_OUTPUT};
-use program::{Fault, Place, Wanted, shown_name};
-use source::EMPTY_LINE;
+use program::Wanted;
+use replays::{bundle, replay_named};
 use std::alloc::{AllocError, Global};
 use std::env;
 use std::io::{ErrorKind, IsTerminal, Write};
@@ -102,11 +93,10 @@ fn run_arguments<T: Threads + Wait + Sync>(rt: &HostRuntime, threads: &T) -> Res
                 capture,
                 settings,
                 speed,
-                wanted: Wanted::Replies(engine),
                 written: replies,
                 place: Place::Replies,
             };
-            replay_named(rt, threads, standard, &names)
+            replay_named(rt, threads, standard, &names, Wanted::Replies(engine))
         }
         Job::Explain {
             snapshot,
@@ -120,11 +110,10 @@ fn run_arguments<T: Threads + Wait + Sync>(rt: &HostRuntime, threads: &T) -> Res
                 capture,
                 settings,
                 speed,
-                wanted: Wanted::Rows,
                 written: messages,
                 place: Place::Messages,
             };
-            replay_named(rt, threads, standard, &names).map_err(Explained::of_rows)
+            replay_named(rt, threads, standard, &names, Wanted::Rows).map_err(Explained::of_rows)
         }
         Job::Inspect { capture } => inspect_named(rt, standard, capture),
         Job::Upgrade {

@@ -9,11 +9,11 @@ use Rattle.captures.specs.Passes.{BlamesReader, reader_failures as pass_failures
 use Rattle.paths.specs.SnapshotFaults as snapshots
 use Rattle.paths.specs.declared.snapshot_fault.SnapshotFaultKind.{SnapshotFaultKind}
 use Rattle.paths.specs.declared.snapshot_fault.SnapshotFaultKind.TheVariants as snapshot_kinds
-use Rattle.program.specs.declared.fault.Fault.{Fault}
-use Rattle.program.specs.declared.fault.Fault.TheVariants.{Snapshot, Replay, Upgrade, Slim}
+use Rattle.faults.specs.declared.fault.Fault.{Fault}
+use Rattle.faults.specs.declared.fault.Fault.TheVariants.{Snapshot, Replay, Upgrade, Slim}
 use Rattle.program.specs.declared.wanted.Wanted.{Wanted}
-use Rattle.program.specs.Bundles.{reader_failures}
-use Rattle.program.specs.Replays.{capture_failures, snapshot_failures, is_untold, is_untold_at_files}
+use Rattle.runs.specs.Failures.{reader_failures, capture_failures}
+use Rattle.program.specs.Replays.{snapshot_failures, is_untold, is_untold_at_files}
 
 capture_once : (k : CaptureFaultKind) → (captures.failures_of k ≡ 0) ⊎ (captures.failures_of k ≡ 1)
 capture_once capture_kinds.Read = inr refl

@@ -1,11 +1,11 @@
 -- From what a run with a buffer came to, to what is told of it: that a device is blamed only where it failed.
 use Rattle.std.proofs.Common.{◌≡◌, ◌⊎◌, ◌∙◌, inl, inr, refl, ap, sym, subst, ℕ, ◌+◌, add-zero, Bool, true, false, not, is_ok, List, Option, Result, Ok, Err, OnOk}
 use Rattle.captures.specs.Passes.{BlamesReader}
-use Rattle.program.specs.declared.fault.Fault.{Fault}
-use Rattle.program.specs.declared.fault.Fault.TheVariants.{Write, Memory}
-use Rattle.program.specs.declared.fault.Place.{Place}
-use Rattle.program.specs.declared.fault.Place.TheVariants.{Replies, Report}
-use Rattle.program.specs.Ports.{Settles, Whole, NotDue, CutShort, Tells, IsTold, Same, Lacks, blames, is_due}
+use Rattle.faults.specs.declared.fault.Fault.{Fault}
+use Rattle.faults.specs.declared.fault.Fault.TheVariants.{Write, Memory}
+use Rattle.faults.specs.declared.fault.Place.{Place}
+use Rattle.faults.specs.declared.fault.Place.TheVariants.{Replies, Report}
+use Rattle.runs.specs.Ports.{Settles, Whole, NotDue, CutShort, Tells, IsTold, Same, Lacks, blames, is_due}
 
 -- what is told is what a run came to, or else of P it is said that it lacks memory
 pub tells_told : (place : Place) (failed : Bool) (ran told : Result Unit Fault) (P : Result Unit Fault → Type 0) → IsTold place failed ran told → P ran → Tells place P told

@@ -2,13 +2,13 @@
 use Rattle.std.proofs.Common.{◌≡◌, inl, inr, ap, subst, sym, List, ℕ, Option, Result, OnOk, IfErr}
 use Rattle.devices.specs.Devices.{Device, fresh}
 use Rattle.reference.specs.Reference.{Choice}
-use Rattle.program.specs.declared.fault.Fault.{Fault}
-use Rattle.program.specs.declared.fault.Fault.TheVariants.{Write, Memory}
-use Rattle.program.specs.declared.fault.Place.TheVariants.{Replies, Report}
+use Rattle.faults.specs.declared.fault.Fault.{Fault}
+use Rattle.faults.specs.declared.fault.Fault.TheVariants.{Write, Memory}
+use Rattle.faults.specs.declared.fault.Place.TheVariants.{Replies, Report}
 use Rattle.program.specs.declared.wanted.Wanted.{Wanted}
-use Rattle.program.specs.Ports.{Port, RunsAtBoth, port}
+use Rattle.runs.specs.Ports.{Port, RunsAtBoth, port}
 use Rattle.program.specs.Replays.{FilesSays, ReplaySays}
-use Rattle.program.proofs.Settling.{fault_at_devices, ok_at_devices}
+use Rattle.runs.proofs.Settling.{fault_at_devices, ok_at_devices}
 
 -- of fresh inputs of these bytes
 pub said_of_files : (wanted : Wanted) (choice : Choice) (snapshot capture : Option (List ℕ)) (s s' c c' : Device) (written report : Port) (ran : Result Unit Fault) → s ≡ fresh snapshot → c ≡ fresh capture

@@ -1,14 +1,6 @@
-pub mod Buffering
 pub mod Bundling
-pub mod Settling
 pub mod BlameLemmas
 pub mod BlameCounts
 pub mod FilesSaid
 pub mod Programs
 pub mod Reporting
-pub mod Upgraded
-pub mod Slimmed
-pub mod LineWrites
-pub mod FoldersTaken
-pub mod Inspected
-pub mod WrittenSettings

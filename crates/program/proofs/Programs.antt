@@ -9,11 +9,11 @@ use Rattle.devices.specs.Reference.{WhereKnown}
 use Rattle.reference.specs.Outcomes.{IfCapture, Leaves}
 use Rattle.captures.proofs.PassLemmas.{first_of_stop}
 use Rattle.reference.specs.Texts.{Texts, reply_texts}
-use Rattle.program.specs.declared.fault.Fault.{Fault}
-use Rattle.program.specs.declared.fault.Fault.TheVariants.{Snapshot, Replay, Memory}
+use Rattle.faults.specs.declared.fault.Fault.{Fault}
+use Rattle.faults.specs.declared.fault.Fault.TheVariants.{Snapshot, Replay, Memory}
 use Rattle.program.specs.Bundles.{AfterSnapshot, BundleSays, HoldsCapture, IsBundleFault, IsProgramFault, WritesAnswer, default_terms}
-use Rattle.program.specs.Ports.{Port, Reads, port}
-use Rattle.program.proofs.Settling.{ok_weaker, fault_weaker}
+use Rattle.runs.specs.Ports.{Port, Reads, port}
+use Rattle.runs.proofs.Settling.{ok_weaker, fault_weaker}
 
 -- where a replay stops, the capture's fault is the first of its text
 pub first_of_replay : (t : Texts) (input ahead old new : Option (List ℕ)) (f : PassFault) → Leaves t input ahead old new f

@@ -11,16 +11,16 @@ use Rattle.reference.specs.declared.summary.Outcome.{Outcome}
 use Rattle.captures.specs.declared.pass_fault.PassFault.{PassFault}
 use Rattle.reference.specs.Reference.{Choice, Terms, terms_of}
 use Rattle.reference.specs.Outcomes.{Leaves}
-use Rattle.program.specs.declared.fault.Fault.{Fault}
-use Rattle.program.specs.declared.fault.Fault.TheVariants.{Snapshot, Replay, Write, Memory}
-use Rattle.program.specs.declared.fault.Place.TheVariants as places
+use Rattle.faults.specs.declared.fault.Fault.{Fault}
+use Rattle.faults.specs.declared.fault.Fault.TheVariants.{Snapshot, Replay, Write, Memory}
+use Rattle.faults.specs.declared.fault.Place.TheVariants as places
 use Rattle.program.specs.Bundles.{HoldsCapture}
 use Rattle.program.specs.declared.wanted.Wanted.{Wanted}
 use Rattle.program.specs.declared.wanted.Wanted.TheVariants as wants
-use Rattle.program.specs.Ports.{Port}
+use Rattle.runs.specs.Ports.{Port}
 use Rattle.program.specs.Replays.{OfSnapshot, Ports, ports, HasWritten, IsReplayFault, IsFilesFault, FilesSays, untold_by, wanted_of}
 use Rattle.program.proofs.Programs.{first_of_replay}
-use Rattle.program.proofs.Settling.{ok_weaker, fault_weaker}
+use Rattle.runs.proofs.Settling.{ok_weaker, fault_weaker}
 
 -- a replay after a whole snapshot came to no end
 pub stops_after : (wanted : Wanted) (choice : Choice) (snapshot read capture ahead : Option (List ℕ)) (files : List File) (old new : Option (List ℕ)) (f : PassFault) → ReadsWhole snapshot read files → IsSnapshot files

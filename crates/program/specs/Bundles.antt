@@ -3,19 +3,18 @@ use Rattle.std.specs.Prelude.{◌≡◌, ℕ, true, false, List, [], Option, is_
 use Rattle.devices.specs.Reference.{WhereKnown}
 use Rattle.paths.specs.declared.file.File.{File}
 use Rattle.paths.specs.Snapshots.{IsSnapshot, BeginsWithSnapshot}
-use Rattle.paths.specs.SnapshotFaults.{IsFrontFault, IsForeseen, failures_of}
+use Rattle.paths.specs.SnapshotFaults.{IsFrontFault, IsForeseen}
 use Rattle.captures.specs.CaptureFaults.{is_unforeseen_kind, IsFirstFault}
 use Rattle.reference.specs.declared.summary.Outcome.{Outcome}
 use Rattle.reference.specs.Reference.{Terms, terms_of, Answers}
 use Rattle.reference.specs.Outcomes.{IfCapture, Leaves}
 use Rattle.reference.specs.Texts.{reply_texts}
 use Rattle.settings.specs.SettingsTable.{default_choice}
-use Rattle.captures.specs.Passes as passes
-use Rattle.program.specs.declared.fault.Fault.{Fault}
-use Rattle.program.specs.declared.fault.Fault.TheVariants.{Snapshot, Replay, Upgrade, Slim, Write, Memory}
-use Rattle.program.specs.declared.fault.Place.TheVariants.{Replies}
-use Rattle.program.specs.Ports.{Port}
-use Rattle.program.specs.Upgrading.{IsTextOfSomeFormat}
+use Rattle.faults.specs.declared.fault.Fault.{Fault}
+use Rattle.faults.specs.declared.fault.Fault.TheVariants.{Snapshot, Replay, Write, Memory}
+use Rattle.faults.specs.declared.fault.Place.TheVariants.{Replies}
+use Rattle.runs.specs.Ports.{Port}
+use Rattle.runs.specs.Upgrading.{IsTextOfSomeFormat}
 
 -- There are files that keep the rules of a snapshot, and P holds of them and of the rest of the input. Where the bytes
 -- of the input are known, the text of these files stands at their start, and the bytes after it are the rest.
@@ -48,20 +47,6 @@ IsBundleFault input output other = ⊥
 abbrev pub BundleSays : Port → Port → Result Unit Fault → Type 0
 BundleSays input output ran = OnOk ran (AfterSnapshot input.old.bytes (WritesAnswer output.old.bytes output.new.bytes))
     × IfErr ran (IsBundleFault input output)
-
--- how often the reader and the writer failed in a run that answered this fault
-abbrev pub reader_failures : Fault → ℕ
-reader_failures (Snapshot f) = failures_of f.kind
-reader_failures (Replay f) = passes.reader_failures f
-reader_failures (Upgrade f) = passes.reader_failures f
-reader_failures (Slim f) = passes.reader_failures f
-reader_failures other = 0
-
-abbrev pub writer_failures : Fault → ℕ
-writer_failures (Replay f) = passes.writer_failures f
-writer_failures (Upgrade f) = passes.writer_failures f
-writer_failures (Slim f) = passes.writer_failures f
-writer_failures other = 0
 
 -- where the bytes after the snapshot are known, they are the text of a capture
 abbrev pub HoldsCapture : List File → Option (List ℕ) → Type 0

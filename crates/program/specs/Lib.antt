@@ -1,9 +1,2 @@
-pub mod Ports
-pub mod FaultLines
 pub mod Bundles
 pub mod Replays
-pub mod Upgrading
-pub mod Slimming
-pub mod Folders
-pub mod Inspecting
-pub mod InForce

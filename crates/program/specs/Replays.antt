@@ -17,13 +17,13 @@ use Rattle.captures.specs.Passes as passes
 use Rattle.captures.specs.declared.pass_fault.PassFault.{PassFault}
 use Rattle.command_line.specs.declared.words.Engine.TheVariants as engines
 use Rattle.report.specs.Reports.{report_text}
-use Rattle.program.specs.Bundles.{writer_failures}
-use Rattle.program.specs.Ports.{Port, blames, is_cut, port}
+use Rattle.runs.specs.Failures.{capture_failures, report_failures, writer_failures}
+use Rattle.runs.specs.Ports.{Port, blames, is_cut, port}
 use Rattle.program.specs.declared.wanted.Wanted.{Wanted}
 use Rattle.program.specs.declared.wanted.Wanted.TheVariants as wants
-use Rattle.program.specs.declared.fault.Fault.{Fault}
-use Rattle.program.specs.declared.fault.Fault.TheVariants.{Snapshot, Replay, Write, Memory}
-use Rattle.program.specs.declared.fault.Place.TheVariants.{Replies, Report}
+use Rattle.faults.specs.declared.fault.Fault.{Fault}
+use Rattle.faults.specs.declared.fault.Fault.TheVariants.{Snapshot, Replay, Write, Memory}
+use Rattle.faults.specs.declared.fault.Place.TheVariants.{Replies, Report}
 
 -- There are files that keep the rules of a snapshot, and P holds of them. Where the bytes of the input are known, they
 -- are the text of these files.
@@ -79,12 +79,6 @@ abbrev pub Replays : Wanted → Choice → Ports → Type 0
 Replays wanted choice at = WritesWanted wanted choice at (λ outcome.
     Appends at.report.old.bytes at.report.new.bytes (report_text outcome))
 
--- what a fault of the report says of its text and of the output: no memory for it, or a failed write
-abbrev pub IsReportFault : List ℕ → Port → Fault → Type 0
-IsReportFault text output (Write Report) = AppendsProperPrefix output.old.bytes output.new.bytes text
-IsReportFault text output Memory = output.new ≡ output.old
-IsReportFault text output other = ⊥
-
 -- What a fault of the run says of its devices. One of the snapshot is its first, and nothing was written. One of the
 -- replay comes after a whole snapshot, and says what it says of the capture; no report was written. Else the whole
 -- answer was written, and there was no memory for the report, or a prefix of it stands. None else comes.
@@ -101,18 +95,10 @@ IsReplayFault wanted choice at Memory = WritesWanted wanted choice at (λ outcom
     × (at.report.new ≡ at.report.old)
 IsReplayFault wanted choice at other = ⊥
 
--- how often each device failed in a run that answered this fault (the replies' is `writer_failures` of Bundles)
+-- how often the reader of the snapshot failed in a run that answered this fault (Failures of `runs` has the others)
 abbrev pub snapshot_failures : Fault → ℕ
 snapshot_failures (Snapshot f) = failures_of f.kind
 snapshot_failures other = 0
-
-abbrev pub capture_failures : Fault → ℕ
-capture_failures (Replay f) = passes.reader_failures f
-capture_failures other = 0
-
-abbrev pub report_failures : Fault → ℕ
-report_failures (Write Report) = 1
-report_failures other = 0
 
 -- the staged engine alone may leave a read of the capture that failed untold, where another fault comes before it
 abbrev pub untold_by : Wanted → PassFault → Bool

@@ -4,15 +4,15 @@ ghost use Rattle.std.specs.Prelude.{◌≡◌, ◌⊎◌, ◌-◌, ◌<◌, ◌^
 ghost use Rattle.captures.specs.Passes.{BlamesReader};
 ghost use Rattle.devices.specs.Devices.{CanFail, CountsBy};
 ghost use Rattle.program.specs.Bundles.{AfterSnapshot, BundleSays, HoldsCapture, IsBundleFault, IsProgramFault};
-ghost use Rattle.program.specs.Bundles.{WritesAnswer, reader_failures, writer_failures};
-ghost use Rattle.program.specs.Ports.{Reads, Runs, Tells, blames, is_cut, port};
+ghost use Rattle.runs.specs.Failures.{reader_failures, writer_failures};
+ghost use Rattle.program.specs.Bundles.{WritesAnswer};
+ghost use Rattle.runs.specs.Ports.{Reads, Runs, Tells, blames, is_cut, port};
 
-use crate::fault::{Fault, Place};
-use crate::running::{Job, buffered_input, run_blaming, run_buffered};
-use crate::sink::Sink;
 use devices::{Input, Output};
+use faults::{Fault, Place};
 use paths::Snapshot;
 use replay::plain_replay;
+use runs::{Job, Sink, buffered_input, run_blaming, run_buffered};
 use settings::default_settings;
 use std::alloc::Global;
 use std::io::{Read, Write};
@@ -56,8 +56,9 @@ struct Bundle<R: Read + Drop> {
 impl<R: Read + Drop> Job for Bundle<R> {
     ghost use Rattle.std.specs.Prelude.{◌-◌, ◌<◌, ◌^◌};
     ghost use Rattle.devices.specs.Devices.{CanFail};
-    ghost use Rattle.program.specs.Bundles.{BundleSays, reader_failures};
-    ghost use Rattle.program.specs.Ports.{Blaming, is_cut, port};
+    ghost use Rattle.runs.specs.Failures.{reader_failures};
+    ghost use Rattle.program.specs.Bundles.{BundleSays};
+    ghost use Rattle.runs.specs.Ports.{Blaming, is_cut, port};
 
     ghost ready = { λ job. CanFail job.input };
 

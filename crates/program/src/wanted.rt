@@ -5,7 +5,7 @@ ghost use Rattle.devices.specs.Devices.{CanFail, CountsBy};
 ghost use Rattle.reference.specs.Reference.{terms_of};
 ghost use Rattle.reference.specs.Outcomes.{Leaves};
 ghost use Rattle.captures.specs.Passes as passes;
-ghost use Rattle.program.specs.Ports.{port};
+ghost use Rattle.runs.specs.Ports.{port};
 ghost use Rattle.program.specs.Replays.{HasWritten, untold_by, wanted_of};
 
 use command_line::Engine;

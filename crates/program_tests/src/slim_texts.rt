@@ -2,9 +2,10 @@
 use crate::running::{Narrow, is_out_of_memory};
 use captures::{CaptureFaultKind, PassFault, Version};
 use devices::{Input, Output};
-use program::{Fault, Place, run_slim, slim_files};
+use program::{Fault, Place, Sink, buffered_input, run_slim, slim_into};
 use slim::Queries;
-use std::alloc::AllocGlobal;
+use std::alloc::{AllocGlobal, Global};
+use std::io::Write;
 use std::process::Abort;
 use test_support::Flaky;
 
@@ -55,6 +56,17 @@ fn each_read_failing(rt: HostRuntime) {
     assert!(rt; false, "the run comes to no end");
 }
 
+/// A slim text with a buffer before each device.
+fn slim_buffered<W: Write + Drop>(
+    alloc: Global,
+    text: &[u8],
+    writer: W,
+    queries: Queries,
+) -> Result<(), Fault> {
+    let input = buffered_input(alloc, text)?;
+    slim_into(alloc, input, Sink::new(writer), Version::Traffic, queries).0
+}
+
 /// A slim text with a writer that fails after n writes, without a buffer and with one; whether both came to an end.
 fn ends_writing(rt: &(impl Abort + AllocGlobal), good: usize) -> bool {
     let mut output = Narrow::new(8, good);
@@ -66,11 +78,10 @@ fn ends_writing(rt: &(impl Abort + AllocGlobal), good: usize) -> bool {
         Queries::Dropped,
     );
     let mut buffered = Narrow::new(8, good);
-    let (with_buffer, _) = slim_files(
+    let with_buffer = slim_buffered(
         rt.alloc(),
         CAPTURE.as_bytes(),
         &mut buffered,
-        Version::Traffic,
         Queries::Dropped,
     );
     let want = SLIM.as_bytes();
@@ -98,11 +109,10 @@ fn each_write_failing(rt: HostRuntime) {
 #[test]
 fn fault_with_a_dead_writer(rt: HostRuntime) {
     let mut output = Narrow::new(8, 0);
-    let (ran, _) = slim_files(
+    let ran = slim_buffered(
         rt.alloc(),
         &CAPTURE.as_bytes()[..50],
         &mut output,
-        Version::Traffic,
         Queries::Kept,
     );
     assert_eq!(rt; ran, Err(Fault::Write(Place::Output)));
@@ -113,15 +123,12 @@ fn fault_with_a_dead_writer(rt: HostRuntime) {
 #[test]
 fn each_growth_refused(rt: HostRuntime) {
     let mut output = Narrow::ample();
-    match slim_files(
+    match slim_buffered(
         rt.alloc(),
         CAPTURE.as_bytes(),
         &mut output,
-        Version::Traffic,
         Queries::Dropped,
-    )
-    .0
-    {
+    ) {
         Ok(()) => assert_eq!(rt; output.text(), SLIM.as_bytes()),
         Err(fault) => {
             assert!(rt; is_out_of_memory(&fault));

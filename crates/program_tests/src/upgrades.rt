@@ -2,8 +2,9 @@
 use crate::running::{Narrow, is_out_of_memory};
 use captures::{CaptureFaultKind, UpgradeFault, Version};
 use devices::{Input, Output};
-use program::{Fault, Place, run_upgrade, upgrade_files};
-use std::alloc::AllocGlobal;
+use program::{Fault, Place, Sink, buffered_input, run_upgrade, upgrade_into};
+use std::alloc::{AllocGlobal, Global};
+use std::io::Write;
 use std::process::Abort;
 use test_support::{Flaky, NEWER, OLDER};
 
@@ -49,6 +50,17 @@ fn each_read_failing(rt: HostRuntime) {
     assert!(rt; false, "the run comes to no end");
 }
 
+/// Upgrades with a buffer before each device.
+fn upgrade_buffered<W: Write + Drop>(
+    alloc: Global,
+    text: &[u8],
+    writer: W,
+    to: Version,
+) -> Result<(), Fault> {
+    let input = buffered_input(alloc, text)?;
+    upgrade_into(alloc, input, Sink::new(writer), to).0
+}
+
 /// Upgrades with a writer that fails after n writes, without a buffer and with one; whether both came to an end.
 fn ends_writing(
     rt: &(impl Abort + AllocGlobal),
@@ -65,7 +77,7 @@ fn ends_writing(
         to,
     );
     let mut buffered = Narrow::new(8, good);
-    let (with_buffer, _) = upgrade_files(rt.alloc(), OLDER.as_bytes(), &mut buffered, to);
+    let with_buffer = upgrade_buffered(rt.alloc(), OLDER.as_bytes(), &mut buffered, to);
     assert!(rt; want.starts_with(output.text()) && want.starts_with(buffered.text()));
     assert!(rt; matches!(ran, Ok(()) | Err(Fault::Upgrade(UpgradeFault::Write))));
     assert!(rt; matches!(with_buffer, Ok(()) | Err(Fault::Write(Place::Output))));
@@ -96,7 +108,7 @@ fn each_write_failing(rt: HostRuntime) {
 #[test]
 fn fault_with_a_dead_writer(rt: HostRuntime) {
     let mut output = Narrow::new(8, 0);
-    let (ran, _) = upgrade_files(
+    let ran = upgrade_buffered(
         rt.alloc(),
         &OLDER.as_bytes()[..50],
         &mut output,
@@ -110,7 +122,7 @@ fn fault_with_a_dead_writer(rt: HostRuntime) {
 #[test]
 fn each_growth_refused(rt: HostRuntime) {
     let mut output = Narrow::ample();
-    match upgrade_files(rt.alloc(), OLDER.as_bytes(), &mut output, Version::Two).0 {
+    match upgrade_buffered(rt.alloc(), OLDER.as_bytes(), &mut output, Version::Two) {
         Ok(()) => assert_eq!(rt; output.text(), NEWER.as_bytes()),
         Err(fault) => {
             assert!(rt; is_out_of_memory(&fault));

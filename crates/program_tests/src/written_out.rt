@@ -1,7 +1,7 @@
 //! Settings that are written out, by devices that fail.
 use crate::running::is_out_of_memory;
 use devices::Output;
-use program::{Fault, Place, run_settings, settings_files};
+use program::{Fault, Place, Sink, run_settings, settings_into};
 use settings::settings_text;
 use std::alloc::AllocGlobal;
 use std::process::Abort;
@@ -17,7 +17,8 @@ fn ends_writing(rt: &(impl Abort + AllocGlobal), whole: &[u8], good: usize) -> b
         &mut Output::new(Slow::new(&mut taken, 512, good)),
     );
     let mut buffered = Vec::new(rt.alloc());
-    let (with_buffer, _) = settings_files(rt.alloc(), b"", Slow::new(&mut buffered, 512, good));
+    let writer = Slow::new(&mut buffered, 512, good);
+    let (with_buffer, _) = settings_into(rt.alloc(), b"", Sink::new(writer));
     assert!(rt; whole.starts_with(&taken) && whole.starts_with(&buffered));
     assert!(rt; matches!(ran, Ok(()) | Err(Fault::Write(Place::Report))));
     assert!(rt; matches!(with_buffer, Ok(()) | Err(Fault::Write(Place::Report))));
@@ -46,8 +47,8 @@ fn each_write_failing(rt: HostRuntime) -> Result<(), Fail> {
 /// `checks/refuse_growths.py` refuses each growth in turn: then nothing stands.
 #[test]
 fn each_growth_refused(rt: HostRuntime) {
-    let (ran, output) = settings_files(rt.alloc(), b"", Counted { bytes: 0 });
-    assert_eq!(rt; ran.is_ok(), output.bytes > 0);
+    let (ran, output) = settings_into(rt.alloc(), b"", Sink::new(Counted { bytes: 0 }));
+    assert_eq!(rt; ran.is_ok(), output.into_writer().bytes > 0);
     if let Err(fault) = ran {
         assert!(rt; is_out_of_memory(&fault));
     }

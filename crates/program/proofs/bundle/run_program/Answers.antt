@@ -1,9 +1,9 @@
 use Rattle.std.proofs.Common.{rules}
-use Rattle.program.specs.declared.fault.Place.TheVariants.{Replies}
+use Rattle.faults.specs.declared.fault.Place.TheVariants.{Replies}
 use Rattle.program.specs.Bundles.{BundleSays}
 use Rattle.program.proofs.Programs.{program_fault, program_ok}
-use Rattle.program.specs.Ports.{Reads, Runs}
-use Rattle.program.proofs.Settling.{ok_of_runs, fault_of_runs}
+use Rattle.runs.specs.Ports.{Reads, Runs}
+use Rattle.runs.proofs.Settling.{ok_of_runs, fault_of_runs}
 use Rattle.program.proofs.bundle.run_program.Goals as goal
 
 pub returns-in-Ok-clause-ok : goal.returns-in-Ok-clause-ok

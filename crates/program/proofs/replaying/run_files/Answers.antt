@@ -1,4 +1,4 @@
-use Rattle.program.specs.Ports.{RunsAtBoth}
+use Rattle.runs.specs.Ports.{RunsAtBoth}
 use Rattle.program.specs.Replays.{FilesSays}
 use Rattle.program.proofs.FilesSaid.{both_fault, both_ok, run_of_files}
 use Rattle.program.proofs.Reporting.{files_fault, files_ok}

@@ -1,4 +1,0 @@
-use Rattle.program.proofs.running.run_buffered.Given as goal
-
-abbrev pub ghosts-run_job : goal.ghosts-run_job
-ghosts-run_job g a = record { stood = a.sink.bytes }

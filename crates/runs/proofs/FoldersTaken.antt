@@ -1,0 +1,252 @@
+-- From what becomes of each file to what the run that writes a snapshot says.
+use Rattle.devices.proofs.Appending.{prefix_all, prefix_first}
+use Rattle.devices.specs.Reference.{line_feed}
+use Rattle.devices.specs.Devices.{Device, AppendsPrefix}
+use Rattle.std.proofs.Common.{◌≡◌, ◌≢◌, ◌⊎◌, inl, inr, ℕ, ◌+◌, ◌<◌, ◌≤◌, Bool, true, false, List, [], ◌∷◌, ◌++◌, length, take, drop, get_or, is_some, Option, Some, None, Result, Ok, Err, IfOk, IfErr, refl, sym, ap, ◌∙◌, subst, arith, decimal, append-nil}
+use Rattle.std.proofs.lemmas.Fmt.{length-decimal-le}
+use Rattle.std.proofs.lemmas.List.{append_assoc, length-append, take_more, take_all, take-append-drop}
+use Rattle.std.specs.Io.KnownBytes.{Appends}
+use Rattle.paths.specs.declared.file.File.{File}
+use Rattle.paths.specs.Snapshots.{last_line, text_before_end, snapshot_text, IsSnapshotText}
+use Rattle.paths.proofs.FilesOrFault.{rules_none}
+use Rattle.snapshots.specs.declared.so_far.FilesSoFar.{FilesSoFar}
+use Rattle.snapshots.specs.declared.write_fault.WriteFault.{WriteFault}
+use Rattle.snapshots.specs.declared.write_fault.WriteFault.TheVariants as rules
+use Rattle.snapshots.specs.Keeping.{a_file, broken_rule}
+use Rattle.snapshots.specs.Writers.{Took, refused_for}
+use Rattle.snapshots.proofs.Rulings.{keeps}
+use Rattle.snapshots.proofs.Taken.{whole}
+use Rattle.faults.specs.declared.fault.Fault.{Fault}
+use Rattle.faults.specs.declared.fault.Fault.TheVariants.{Open, Write, Memory}
+use Rattle.faults.specs.declared.folder_fault.FileFault.{FileFault}
+use Rattle.runs.specs.declared.folder.Contents.{Contents}
+use Rattle.runs.specs.declared.folder.Found.{Found}
+use Rattle.faults.specs.declared.fault.Place.TheVariants.{Output}
+use Rattle.faults.specs.declared.fault.Place.TheVariants as places
+use Rattle.runs.specs.Folders.{Answering, AddsFile, AddsFound, Breaks, Cuts, CutsFile, CutsFound, IsOutputFault, IsRefused, IsSnapshotRunFault, IsTaken, Names, Takes, WritesFolder, WritesFolderPrefix, name_of, refusal, unwritten}
+
+-- ---- the first line and the last
+
+pub cut_by : (text : List ℕ) (old new : Option (List ℕ)) (f : WriteFault) → AppendsPrefix old new text → Cuts text old new (unwritten f)
+cut_by text old new rules.Time h = (inr refl, h)
+cut_by text old new rules.Size h = (inr refl, h)
+cut_by text old new rules.Count h = (inr refl, h)
+cut_by text old new rules.Name h = (inr refl, h)
+cut_by text old new rules.Order h = (inr refl, h)
+cut_by text old new rules.Conflict h = (inr refl, h)
+cut_by text old new rules.Text h = (inr refl, h)
+cut_by text old new rules.Write h = (inl refl, h)
+cut_by text old new rules.Memory h = (inr refl, h)
+
+no_files : IsSnapshotText (snapshot_text []) []
+no_files = record {
+  text = refl;
+  rules = rules_none;
+  size = (let digit = length-decimal-le 1 0 (omega arith) (omega arith) (omega arith) in omega (arith, digit, length-append (decimal 0) (line_feed ∷ [])));
+}
+
+-- ---- one file
+
+still : (files : List File) (before : Option (List ℕ)) (old new : Device) (s next : FilesSoFar) → (next ≡ s) × (new ≡ old) → Took files before old.bytes s → Took files before new.bytes next
+still files before old new s next same took = rw (same.0, same.1) took
+
+pub file_refused : (files : List File) (before : Option (List ℕ)) (f : File) (old new : Device) (s next : FilesSoFar) (fault : WriteFault) (why : FileFault) → refusal fault ≡ Ok why
+    → (fault ≢ rules.Write → (next ≡ s) × (new ≡ old)) → refused_for (Err fault) ≡ broken_rule files f → Took files before old.bytes s
+    → Breaks files f why × Took files before new.bytes next
+file_refused files before f old new s next rules.Time why is same rule took = ((rules.Time, sym rule, is), still files before old new s next (same (λ e. cc)) took)
+file_refused files before f old new s next rules.Size why is same rule took = ((rules.Size, sym rule, is), still files before old new s next (same (λ e. cc)) took)
+file_refused files before f old new s next rules.Count why is same rule took = ((rules.Count, sym rule, is), still files before old new s next (same (λ e. cc)) took)
+file_refused files before f old new s next rules.Name why is same rule took = ((rules.Name, sym rule, is), still files before old new s next (same (λ e. cc)) took)
+file_refused files before f old new s next rules.Order why is same rule took = ((rules.Order, sym rule, is), still files before old new s next (same (λ e. cc)) took)
+file_refused files before f old new s next rules.Conflict why is same rule took = ((rules.Conflict, sym rule, is), still files before old new s next (same (λ e. cc)) took)
+file_refused files before f old new s next rules.Text why is same rule took = ((rules.Text, sym rule, is), still files before old new s next (same (λ e. cc)) took)
+file_refused files before f old new s next rules.Write why is same rule took = cc
+file_refused files before f old new s next rules.Memory why is same rule took = cc
+
+pub file_cut : (files : List File) (before : Option (List ℕ)) (f : File) (old new : Device) (s next : FilesSoFar) (fault : WriteFault) (reported : Fault) → refusal fault ≡ Err reported
+    → (fault ≡ rules.Write → AppendsPrefix before new.bytes (text_before_end (files ++ f ∷ [])))
+    → (fault ≢ rules.Write → (next ≡ s) × (new ≡ old)) → refused_for (Err fault) ≡ broken_rule files f → Took files before old.bytes s
+    → CutsFile files before f new.bytes reported
+file_cut files before f old new s next rules.Time reported is part same rule took = cc
+file_cut files before f old new s next rules.Size reported is part same rule took = cc
+file_cut files before f old new s next rules.Count reported is part same rule took = cc
+file_cut files before f old new s next rules.Name reported is part same rule took = cc
+file_cut files before f old new s next rules.Order reported is part same rule took = cc
+file_cut files before f old new s next rules.Conflict reported is part same rule took = cc
+file_cut files before f old new s next rules.Text reported is part same rule took = cc
+file_cut files before f old new s next rules.Write reported is part same rule took = (let reported_is : reported ≡ Write Output = cc in inl (reported_is, sym rule, part refl))
+file_cut files before f old new s next rules.Memory reported is part same rule took = (let reported_is : reported ≡ Memory = cc in inr (reported_is, (still files before old new s next (same (λ e. cc)) took).text))
+
+-- ---- what was found
+
+pub none_of : (o : Option FileFault) (b : Bool) → b ≡ is_some o → b ≡ false → o ≡ None
+none_of None b is isnt = refl
+none_of (Some x) b is isnt = (let never : true ≡ false = sym is ∙ isnt in cc)
+
+found_added : (answers : Answering) (files : List File) (before : Option (List ℕ)) (found : Found) (c : Contents) (r : Option FileFault) (now : Option (List ℕ)) (s : FilesSoFar) → found.fault ≡ None → answers (name_of found) (Ok c)
+    → AddsFile files before (a_file (name_of found) c.mtime c.bytes.items) r now s → AddsFound answers files before found r now s
+found_added answers files before found c None now s known says h = (a_file (name_of found) c.mtime c.bytes.items, ((c, known, says, refl), h.0), h.1)
+found_added answers files before found c (Some fault) now s known says h =
+    (inr (inr (a_file (name_of found) c.mtime c.bytes.items, (c, known, says, refl), h.0)), h.1)
+
+pub found_ok : (answers : Answering) (files : List File) (before : Option (List ℕ)) (found : Found) (c : Contents) (r : Result (Option FileFault) Fault) (now : Option (List ℕ)) (s : FilesSoFar) → found.fault ≡ None → answers (name_of found) (Ok c)
+    → IfOk r (λ o. AddsFile files before (a_file (name_of found) c.mtime c.bytes.items) o now s) → IfOk r (λ o. AddsFound answers files before found o now s)
+found_ok answers files before found c (Ok o) now s known says h = found_added answers files before found c o now s known says h
+found_ok answers files before found c (Err f) now s known says h = tt
+
+cut_found : (answers : Answering) (files : List File) (before : Option (List ℕ)) (found : Found) (c : Contents) (reported : Fault) (now : Option (List ℕ)) → found.fault ≡ None → answers (name_of found) (Ok c)
+    → CutsFile files before (a_file (name_of found) c.mtime c.bytes.items) now reported → CutsFound answers files before found now reported
+cut_found answers files before found c reported now known says (inl h) = inl (h.0, a_file (name_of found) c.mtime c.bytes.items, ((c, known, says, refl), h.1), h.2)
+cut_found answers files before found c reported now known says (inr h) = inr (inl h.0, h.1)
+
+pub found_err : (answers : Answering) (files : List File) (before : Option (List ℕ)) (found : Found) (c : Contents) (r : Result (Option FileFault) Fault) (now : Option (List ℕ)) → found.fault ≡ None → answers (name_of found) (Ok c)
+    → IfErr r (CutsFile files before (a_file (name_of found) c.mtime c.bytes.items) now) → IfErr r (CutsFound answers files before found now)
+found_err answers files before found c (Ok o) now known says h = tt
+found_err answers files before found c (Err f) now known says h = cut_found answers files before found c f now known says h
+
+-- ---- all that was found
+
+takes_one : (answers : Answering) (before : List File) (xs : List Found) (x : Found) (mid : List File) (n : ℕ) (f : File) → Takes answers before xs mid n → IsTaken answers mid x f → Takes answers before (xs ++ x ∷ []) (mid ++ f ∷ []) n
+takes_one answers before [] x mid n f h taken =
+    inl (f, subst (λ (fs : List File). IsTaken answers fs x f) h.0 taken, (ap (λ (fs : List File). fs ++ f ∷ []) h.0, h.1))
+takes_one answers before (y ∷ xs) x mid n f (inl h) taken = inl (h.0, h.1, takes_one answers (before ++ h.0 ∷ []) xs x mid n f h.2 taken)
+takes_one answers before (y ∷ xs) x mid n f (inr h) taken = inr (h.0, h.1, h.2, h.3, takes_one answers before xs x mid h.1 f h.4 taken)
+
+leaves_one : (answers : Answering) (before : List File) (xs : List Found) (x : Found) (mid : List File) (n : ℕ) (fault : FileFault) → Takes answers before xs mid n → IsRefused answers mid x fault → Takes answers before (xs ++ x ∷ []) mid (n + 1)
+leaves_one answers before [] x mid n fault h refused =
+    inr (fault, 0, subst (λ (fs : List File). IsRefused answers fs x fault) h.0 refused, ap (λ (k : ℕ). k + 1) h.1, (h.0, refl))
+leaves_one answers before (y ∷ xs) x mid n fault (inl h) refused = inl (h.0, h.1, leaves_one answers (before ++ h.0 ∷ []) xs x mid n fault h.2 refused)
+leaves_one answers before (y ∷ xs) x mid n fault (inr h) refused = inr (h.0, h.1 + 1, h.2, ap (λ (k : ℕ). k + 1) h.3, leaves_one answers before xs x mid h.1 fault h.4 refused)
+
+-- what stands after n of what was found
+pub record Stands (answers : Answering) (found : List Found) (at : ℕ) (skip : Bool) (skipped : ℕ) (before now : Option (List ℕ)) (s : FilesSoFar) : Type 0 where
+  pub files : List File
+  pub takes : Takes answers [] (take at found) files skipped
+  pub took : Took files before now s
+  pub all : skip ≡ false → skipped ≡ 0
+  pub few : skipped ≤ at
+
+pub stands_none : (answers : Answering) (found : List Found) (skip : Bool) (before now : Option (List ℕ)) (s : FilesSoFar) → Took [] before now s → Stands answers found 0 skip 0 before now s
+stands_none answers found skip before now s took = record {
+  files = [];
+  takes = (refl, refl);
+  took = took;
+  all = λ e. refl;
+  few = omega arith;
+}
+
+pub stands_taken : (answers : Answering) (found : List Found) (at : ℕ) (skip : Bool) (skipped : ℕ) (before now new : Option (List ℕ)) (s next : FilesSoFar) (item : Found) → at < length found → item ≡ get_or found at item
+    → (stands : Stands answers found at skip skipped before now s) → AddsFound answers stands.files before item None new next → Stands answers found (at + 1) skip skipped before new next
+stands_taken answers found at skip skipped before now new s next item lt is stands adds = record {
+  files = stands.files ++ adds.0 ∷ [];
+  takes = subst (λ (fs : List Found). Takes answers [] fs (stands.files ++ adds.0 ∷ []) skipped)
+      (ap (λ (x : Found). take at found ++ x ∷ []) is ∙ sym (take_more found at item lt))
+      (takes_one answers [] (take at found) item stands.files skipped adds.0 stands.takes adds.1);
+  took = adds.2;
+  all = stands.all;
+  few = omega (arith, stands.few);
+}
+
+pub stands_left : (answers : Answering) (found : List Found) (at : ℕ) (skip : Bool) (skipped : ℕ) (before now new : Option (List ℕ)) (s next : FilesSoFar) (item : Found) (fault : FileFault) → at < length found → item ≡ get_or found at item → skip ≡ true
+    → (stands : Stands answers found at skip skipped before now s) → AddsFound answers stands.files before item (Some fault) new next → Stands answers found (at + 1) skip (skipped + 1) before new next
+stands_left answers found at skip skipped before now new s next item fault lt is skips stands adds = record {
+  files = stands.files;
+  takes = subst (λ (fs : List Found). Takes answers [] fs stands.files (skipped + 1))
+      (ap (λ (x : Found). take at found ++ x ∷ []) is ∙ sym (take_more found at item lt))
+      (leaves_one answers [] (take at found) item stands.files skipped fault stands.takes adds.0);
+  took = adds.1;
+  all = λ e. (let never : true ≡ false = sym skips ∙ e in cc);
+  few = omega (arith, stands.few);
+}
+
+-- a list is its first items, one, and the rest
+parted : (found : List Found) (at : ℕ) (item : Found) → at < length found → item ≡ get_or found at item → found ≡ take at found ++ item ∷ drop (at + 1) found
+parted found at item lt is =
+    sym (take-append-drop (at + 1) found)
+    ∙ (ap (λ (fs : List Found). fs ++ drop (at + 1) found) (take_more found at item lt ∙ ap (λ (x : Found). take at found ++ x ∷ []) (sym is))
+    ∙ append_assoc (take at found) (item ∷ []) (drop (at + 1) found))
+
+-- ---- faults
+
+pub none_begun : (answers : Answering) (found : List Found) (skip : Bool) (old new : Option (List ℕ)) (f : Fault) → Cuts (text_before_end []) old new f → IsSnapshotRunFault answers found skip old new f
+none_begun answers found skip old new f h =
+    inl (inl h.0, ([], found, [], 0, refl, (refl, refl), no_files, prefix_first old new (text_before_end []) (last_line [] ++ line_feed ∷ []) h.1))
+
+-- out of memory between two files
+kept_prefix : (answers : Answering) (found : List Found) (at : ℕ) (skipped : ℕ) (old new : Option (List ℕ)) (files : List File) (s : FilesSoFar) (was : Option (List ℕ)) → Takes answers [] (take at found) files skipped → Took files old was s
+    → Appends old new (text_before_end files) → WritesFolderPrefix answers found old new
+kept_prefix answers found at skipped old new files s was takes took h = (
+  take at found,
+  drop at found,
+  files,
+  skipped,
+  sym (take-append-drop at found),
+  takes,
+  whole files old was s took,
+  prefix_first old new (text_before_end files) (last_line files ++ line_feed ∷ []) (prefix_all old new (text_before_end files) h),
+)
+
+cut_prefix : (answers : Answering) (found : List Found) (at : ℕ) (skip : Bool) (skipped : ℕ) (old now new : Option (List ℕ)) (s : FilesSoFar) (item : Found) (f : File) → at < length found → item ≡ get_or found at item
+    → (stands : Stands answers found at skip skipped old now s) → IsTaken answers stands.files item f → AppendsPrefix old new (text_before_end (stands.files ++ f ∷ [])) → WritesFolderPrefix answers found old new
+cut_prefix answers found at skip skipped old now new s item f lt is stands taken h = (
+  take at found ++ item ∷ [],
+  drop (at + 1) found,
+  stands.files ++ f ∷ [],
+  skipped,
+  parted found at item lt is ∙ sym (append_assoc (take at found) (item ∷ []) (drop (at + 1) found)),
+  takes_one answers [] (take at found) item stands.files skipped f stands.takes taken,
+  keeps stands.files f (whole stands.files old now s stands.took) taken.1,
+  prefix_first old new (text_before_end (stands.files ++ f ∷ [])) (last_line (stands.files ++ f ∷ []) ++ line_feed ∷ []) h,
+)
+
+cut_short : {reported : Fault} → (reported ≡ Memory) ⊎ (reported ≡ Open places.Folder) → IsOutputFault reported ⊎ (reported ≡ Open places.Folder)
+cut_short (inl memory) = inl (inr memory)
+cut_short (inr opening) = inr opening
+
+pub stopped : (answers : Answering) (found : List Found) (at : ℕ) (skip : Bool) (skipped : ℕ) (old now new : Option (List ℕ)) (s : FilesSoFar) (item : Found) (reported : Fault) → at < length found → item ≡ get_or found at item
+    → (stands : Stands answers found at skip skipped old now s) → CutsFound answers stands.files old item new reported → IsSnapshotRunFault answers found skip old new reported
+stopped answers found at skip skipped old now new s item reported lt is stands (inl h) = inl (inl (inl h.0), cut_prefix answers found at skip skipped old now new s item h.1 lt is stands h.2 h.3)
+stopped answers found at skip skipped old now new s item reported lt is stands (inr h) = inl (cut_short h.0, kept_prefix answers found at skipped old new stands.files s now stands.takes stands.took h.1)
+
+-- out of memory once a file was left out
+pub lacking : (answers : Answering) (found : List Found) (at : ℕ) (skip : Bool) (skipped : ℕ) (old now new : Option (List ℕ)) (s next : FilesSoFar) (item : Found) (fault : FileFault) (reported : Fault) → reported ≡ Memory → item ≡ get_or found at item
+    → (stands : Stands answers found at skip skipped old now s) → AddsFound answers stands.files old item (Some fault) new next → IsSnapshotRunFault answers found skip old new reported
+lacking answers found at skip skipped old now new s next item fault reported memory is stands adds =
+    inl (inl (inr memory), kept_prefix answers found at skipped old new stands.files next new stands.takes adds.1 adds.1.text)
+
+pub refused_first : (answers : Answering) (found : List Found) (at : ℕ) (skip : Bool) (skipped : ℕ) (old now new : Option (List ℕ)) (s next : FilesSoFar) (item : Found) (fault : FileFault) (reported : Fault) → at < length found → item ≡ get_or found at item → skip ≡ false
+    → (stands : Stands answers found at skip skipped old now s) → AddsFound answers stands.files old item (Some fault) new next → Names (name_of item) fault reported → IsSnapshotRunFault answers found skip old new reported
+refused_first answers found at skip skipped old now new s next item fault reported lt is never stands adds (inl memory) =
+    inl (inl (inr memory), kept_prefix answers found at skipped old new stands.files next new stands.takes adds.1 adds.1.text)
+refused_first answers found at skip skipped old now new s next item fault reported lt is never stands adds (inr named) =
+    inr (
+      named.0,
+      named.1,
+      never,
+      (
+        take at found,
+        item,
+        drop (at + 1) found,
+        stands.files,
+        parted found at item lt is,
+        subst (λ (n : ℕ). Takes answers [] (take at found) stands.files n) (stands.all never) stands.takes,
+        subst (λ (x : FileFault). IsRefused answers stands.files item x) (sym named.3) adds.0,
+        named.2,
+        adds.1.text,
+      ),
+    )
+
+-- ---- the end
+
+all_taken : (answers : Answering) (found : List Found) (at : ℕ) (files : List File) (skipped : ℕ) → length found ≤ at → Takes answers [] (take at found) files skipped → Takes answers [] found files skipped
+all_taken answers found at files skipped le takes = subst (λ (fs : List Found). Takes answers [] fs files skipped) (take_all at found le) takes
+
+pub ended : (answers : Answering) (found : List Found) (at : ℕ) (skip : Bool) (skipped : ℕ) (old now new : Option (List ℕ)) (s : FilesSoFar) → length found ≤ at
+    → (stands : Stands answers found at skip skipped old now s) → Appends old new (snapshot_text stands.files) → WritesFolder answers found skip old new skipped
+ended answers found at skip skipped old now new s le stands h =
+    (stands.files, all_taken answers found at stands.files skipped le stands.takes, stands.all, whole stands.files old now s stands.took, h)
+
+pub unended : (answers : Answering) (found : List Found) (at : ℕ) (skip : Bool) (skipped : ℕ) (old now new : Option (List ℕ)) (s : FilesSoFar) (reported : Fault) → length found ≤ at
+    → (stands : Stands answers found at skip skipped old now s) → Cuts (snapshot_text stands.files) old new reported → IsSnapshotRunFault answers found skip old new reported
+unended answers found at skip skipped old now new s reported le stands h =
+    inl (inl h.0, (found, [], stands.files, skipped, sym (append-nil found), all_taken answers found at stands.files skipped le stands.takes, whole stands.files old now s stands.took, h.1))

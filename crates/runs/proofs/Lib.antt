@@ -1,0 +1,4 @@
+pub mod Buffering
+pub mod Settling
+pub mod FoldersTaken
+pub mod Inspected

@@ -1,0 +1,167 @@
+-- The run that writes what was found in a folder as a snapshot.
+use Rattle.std.specs.Prelude.{◌≡◌, ◌⊎◌, ℕ, ◌+◌, Bool, false, List, [], ◌∷◌, ◌++◌, string_bytes, Option, Some, None}
+use Rattle.std.specs.Prelude.{Result, Ok, Err}
+use Rattle.std.specs.Io.KnownBytes.{Appends}
+use Rattle.devices.specs.Devices.{AppendsPrefix}
+use Rattle.paths.specs.declared.file.File.{File}
+use Rattle.paths.specs.Snapshots.{text_before_end, snapshot_text, IsSnapshotText}
+use Rattle.snapshots.specs.declared.so_far.FilesSoFar.{FilesSoFar}
+use Rattle.snapshots.specs.declared.write_fault.WriteFault.{WriteFault}
+use Rattle.snapshots.specs.declared.write_fault.WriteFault.TheVariants as rules
+use Rattle.snapshots.specs.Keeping.{a_file, broken_rule}
+use Rattle.snapshots.specs.Writers.{Took}
+use Rattle.faults.specs.declared.fault.Fault.{Fault}
+use Rattle.faults.specs.declared.fault.Fault.TheVariants.{Folder, Open, Write, Memory}
+use Rattle.faults.specs.declared.folder_fault.FileFault.{FileFault}
+use Rattle.faults.specs.declared.folder_fault.FileFault.TheVariants.{Time, Size, Count, Name, Order, Conflict, Text}
+use Rattle.faults.specs.declared.folder_fault.FolderFault.{FolderFault}
+use Rattle.runs.specs.declared.folder.Contents.{Contents}
+use Rattle.runs.specs.declared.folder.Found.{Found}
+use Rattle.runs.specs.declared.folder.Unanswered.{Unanswered}
+use Rattle.runs.specs.declared.folder.Unanswered.TheVariants as whys
+use Rattle.faults.specs.declared.fault.Place.TheVariants.{Output}
+use Rattle.faults.specs.declared.fault.Place.TheVariants as places
+use Rattle.faults.specs.FaultLines.{shown_name}
+
+-- what a folder may answer for a name
+abbrev pub Answering : Type 1
+Answering = List ℕ → Result Contents FileFault → Type 0
+
+abbrev pub name_of : Found → List ℕ
+name_of found = string_bytes found.name
+
+-- the rule that a file breaks is why it isn't taken; a failed write and out of memory are faults of the run
+abbrev pub refusal : WriteFault → Result FileFault Fault
+refusal rules.Time = Ok Time
+refusal rules.Size = Ok Size
+refusal rules.Count = Ok Count
+refusal rules.Name = Ok Name
+refusal rules.Order = Ok Order
+refusal rules.Conflict = Ok Conflict
+refusal rules.Text = Ok Text
+refusal rules.Write = Err (Write Output)
+refusal rules.Memory = Err Memory
+
+-- where a folder says nothing of a file, the run is cut short
+abbrev pub unanswered : Unanswered → Fault
+unanswered whys.Memory = Memory
+unanswered whys.Descriptors = Open places.Folder
+
+-- this is why the file can't stand in a snapshot after these files
+abbrev pub Breaks : List File → File → FileFault → Type 0
+Breaks files f fault = (rule : WriteFault) × (broken_rule files f ≡ Some rule) × (refusal rule ≡ Ok fault)
+
+-- the folder answers that what was found is this file
+abbrev pub IsFileOf : Answering → Found → File → Type 0
+IsFileOf answers found f = (c : Contents) × (found.fault ≡ None) × answers (name_of found) (Ok c)
+    × (f ≡ a_file (name_of found) c.mtime c.bytes.items)
+
+-- what was found is this file, which keeps the rules after these files
+abbrev pub IsTaken : Answering → List File → Found → File → Type 0
+IsTaken answers files found f = IsFileOf answers found f × (broken_rule files f ≡ None)
+
+-- What was found isn't taken after these files, and why: it was known before; or the folder answers so; or it is a file
+-- that breaks a rule.
+abbrev pub IsRefused : Answering → List File → Found → FileFault → Type 0
+IsRefused answers files found fault =
+    (found.fault ≡ Some fault)
+    ⊎ (((found.fault ≡ None) × answers (name_of found) (Err fault))
+    ⊎ ((f : File) × IsFileOf answers found f × Breaks files f fault))
+
+-- each of what was found is taken, as the next file after those before, or it isn't: n aren't
+abbrev pub Takes : Answering → List File → List Found → List File → ℕ → Type 0
+Takes answers before [] files skipped = (files ≡ before) × (skipped ≡ 0)
+Takes answers before (found ∷ more) files skipped =
+    ((f : File) × IsTaken answers before found f × Takes answers (before ++ f ∷ []) more files skipped)
+    ⊎ ((fault : FileFault) × (others : ℕ) × IsRefused answers before found fault × (skipped ≡ others + 1)
+    × Takes answers before more files others)
+
+-- the snapshot of what was taken was written: nothing was left out where that isn't allowed
+abbrev pub WritesFolder : Answering → List Found → Bool → Option (List ℕ) → Option (List ℕ) → ℕ → Type 0
+WritesFolder answers found skip old new skipped = (files : List File) × Takes answers [] found files skipped
+    × (skip ≡ false → skipped ≡ 0)
+    × IsSnapshotText (snapshot_text files) files
+    × Appends old new (snapshot_text files)
+
+-- a prefix was written of the snapshot of what was taken of the first of what was found
+abbrev pub WritesFolderPrefix : Answering → List Found → Option (List ℕ) → Option (List ℕ) → Type 0
+WritesFolderPrefix answers found old new = (first rest : List Found) × (files : List File) × (skipped : ℕ)
+    × (found ≡ first ++ rest)
+    × Takes answers [] first files skipped
+    × IsSnapshotText (snapshot_text files) files
+    × AppendsPrefix old new (snapshot_text files)
+
+-- all before what can't be taken was taken, and stands there without a last line
+abbrev pub StopsBefore : Answering → List Found → Option (List ℕ) → Option (List ℕ) → List ℕ → FileFault → Type 0
+StopsBefore answers found old new name fault = (first : List Found) × (refused : Found) × (rest : List Found)
+    × (files : List File)
+    × (found ≡ first ++ refused ∷ rest)
+    × Takes answers [] first files 0
+    × IsRefused answers files refused fault
+    × (name ≡ shown_name (name_of refused))
+    × Appends old new (text_before_end files)
+
+-- the output failed, or there was no memory
+abbrev pub IsOutputFault : Fault → Type 0
+IsOutputFault f = (f ≡ Write Output) ⊎ (f ≡ Memory)
+
+-- What a fault of the run says, and none else comes: a prefix of what was due was written, where the output failed,
+-- there was no memory, or too many files were open; or the first of what can't be taken is named, where nothing may be
+-- left out.
+abbrev pub IsSnapshotRunFault :
+    Answering → List Found → Bool → Option (List ℕ) → Option (List ℕ) → Fault → Type 0
+IsSnapshotRunFault answers found skip old new f =
+    ((IsOutputFault f ⊎ (f ≡ Open places.Folder)) × WritesFolderPrefix answers found old new)
+    ⊎ ((g : FolderFault) × (f ≡ Folder g) × (skip ≡ false)
+    × StopsBefore answers found old new g.name.items g.fault)
+
+-- how often the output failed in a run that answered this fault
+abbrev pub output_failures : Fault → ℕ
+output_failures (Write Output) = 1
+output_failures other = 0
+
+-- ---- one step
+
+-- P holds of the files that a writer took until now, and of what stood before them
+abbrev pub AfterTaking : Option (List ℕ) → FilesSoFar → (List File → Option (List ℕ) → Type 0) → Type 0
+AfterTaking now writer P = (files : List File) (before : Option (List ℕ)) → Took files before now writer
+    → P files before
+
+-- what becomes of a file that is given to a writer which took these files: it is taken, or why not
+abbrev pub AddsFile : List File → Option (List ℕ) → File → Option FileFault → Option (List ℕ) → FilesSoFar → Type 0
+AddsFile files before f None now writer = (broken_rule files f ≡ None) × Took (files ++ f ∷ []) before now writer
+AddsFile files before f (Some fault) now writer = Breaks files f fault × Took files before now writer
+
+-- the file couldn't be written to its end, or there was no memory and nothing was written of it
+abbrev pub CutsFile : List File → Option (List ℕ) → File → Option (List ℕ) → Fault → Type 0
+CutsFile files before f now fault =
+    ((fault ≡ Write Output) × (broken_rule files f ≡ None)
+    × AppendsPrefix before now (text_before_end (files ++ f ∷ [])))
+    ⊎ ((fault ≡ Memory) × Appends before now (text_before_end files))
+
+-- the same of what was found
+abbrev pub AddsFound :
+    Answering → List File → Option (List ℕ) → Found → Option FileFault → Option (List ℕ) → FilesSoFar → Type 0
+AddsFound answers files before found None now writer =
+    (f : File) × IsTaken answers files found f × Took (files ++ f ∷ []) before now writer
+AddsFound answers files before found (Some fault) now writer =
+    IsRefused answers files found fault × Took files before now writer
+
+abbrev pub CutsFound : Answering → List File → Option (List ℕ) → Found → Option (List ℕ) → Fault → Type 0
+CutsFound answers files before found now fault =
+    ((fault ≡ Write Output) × (f : File) × IsTaken answers files found f
+    × AppendsPrefix before now (text_before_end (files ++ f ∷ [])))
+    ⊎ (((fault ≡ Memory) ⊎ (fault ≡ Open places.Folder)) × Appends before now (text_before_end files))
+
+-- the text couldn't be written to its end: a prefix of it stands
+abbrev pub Cuts : List ℕ → Option (List ℕ) → Option (List ℕ) → Fault → Type 0
+Cuts text old new f = IsOutputFault f × AppendsPrefix old new text
+
+abbrev pub unwritten : WriteFault → Fault
+unwritten rules.Write = Write Output
+unwritten other = Memory
+
+-- the fault of what has this name, or no memory for it
+abbrev pub Names : List ℕ → FileFault → Fault → Type 0
+Names name fault f = (f ≡ Memory)
+    ⊎ ((g : FolderFault) × (f ≡ Folder g) × (g.name.items ≡ shown_name name) × (g.fault ≡ fault))
