@@ -1,5 +1,6 @@
 #!/usr/bin/env python3
-"""Puts the lines that tools/server_lines.py prints for HAProxy before a real HAProxy, and counts what it lets in.
+"""Puts the lines that tools/haboob_tools/server_lines.py prints for HAProxy before a real HAProxy, and counts what it
+lets in.
 
     checks/against_haproxy.py
 
@@ -24,7 +25,7 @@ from lib.sources import TOP
 from lib.usage import parser_of
 
 sys.path.insert(0, str(pathlib.Path(TOP, "tools")))
-import server_lines
+from haboob_tools import server_lines
 
 SECONDS = 10  # that a start, an answer or an end may take
 RATE, DEPTH = 10, 20  # requests a second, requests at once: a window of two seconds

@@ -42,9 +42,7 @@ from lib.usage import parser_of
 
 TOOLS = pathlib.Path(TOP, "tools")
 sys.path.insert(0, str(TOOLS))
-import response_delays
-import server_lines
-import settings_documents
+from haboob_tools import response_delays, server_lines, settings_documents
 
 PYTHON = "/usr/bin/python3"
 NEEDED = ("nginx", "tcpdump", PYTHON)

@@ -175,7 +175,7 @@ def walk(report, system):
 
 def look_at_depends(report, system):
     """The package depends on, or recommends, each library of Debian that its tools name, and no others."""
-    modules = (system.root / "usr" / "share" / "haboob").glob("*.py")
+    modules = (system.root / "usr" / "share" / "haboob").rglob("*.py")
     named = set(re.findall(r"\bpython3-[a-z0-9.]+\b", "\n".join(module.read_text() for module in modules)))
     told = system.must("dpkg-query", "--show", "--showformat", "${Depends}, ${Recommends}", "haboob")
     asked = set(re.findall(r"\bpython3-[a-z0-9.]+\b", told))

@@ -33,10 +33,11 @@ VERSION_FILE = TOP / "crates" / "command_line" / "src" / "commands.rt"
 MAINTAINER = "Fulkhem maintainers <maintainers@users.noreply.fulkhem.example>"
 DOC = pathlib.PurePosixPath("usr/share/doc/haboob")
 DOCUMENTS = ("WALK.md", "POLICY.md", "DEPLOY.md", "FORMATS.md", "RULES.md", "hour.svg")
-# The tools that are commands, where they stand; their modules go with them.
+# The tools that are commands; the package of their modules goes with them.
 TOOLS = ("capture_from_pcap", "capture_from_log", "timeline", "sweep", "calibrate")
+MODULES = "haboob_tools"
 # What each of them imports; and what only one option needs.
-DEPENDS = "python3 (>= 3.11), python3-dpkt, python3-matplotlib, python3-numpy, python3-scipy, python3-tqdm"
+DEPENDS = "python3 (>= 3.11), python3-dpkt, python3-h11, python3-matplotlib, python3-numpy, python3-scipy, python3-tqdm"
 RECOMMENDS = "python3-distributed"
 
 CONTROL = """\
@@ -113,19 +114,6 @@ def page_as_installed(text):
     return re.sub(r"\[([^][]+)\]\(([^()]*)\)", kept, as_installed(text))
 
 
-def modules_of(tools):
-    """The tools, and all modules beside them that they import."""
-    ahead, modules = list(tools), set()
-    while ahead:
-        name = ahead.pop()
-        if name not in modules:
-            modules.add(name)
-            text = (TOP / "tools" / (name + ".py")).read_text()
-            imported = re.findall(r"^\s*(?:import|from) (\w+)", text, re.MULTILINE)
-            ahead += [it for it in imported if (TOP / "tools" / (it + ".py")).exists()]
-    return sorted(modules)
-
-
 def put(path, data, mode=0o644):
     """Writes a file of the package, with its folders."""
     path.parent.mkdir(parents=True, exist_ok=True)
@@ -139,12 +127,12 @@ def put_packed(path, text):
 
 
 def put_tools(tree):
-    """The tools as commands, and their modules in one place."""
+    """The tools as commands, and their modules beside them, in a folder where only they look for modules."""
     share = tree / "usr" / "share" / "haboob"
-    for name in modules_of(TOOLS):
-        text = as_installed((TOP / "tools" / (name + ".py")).read_text())
-        put(share / (name + ".py"), text, 0o755 if name in TOOLS else 0o644)
+    for module in sorted((TOP / "tools" / MODULES).glob("*.py")):
+        put(share / MODULES / module.name, as_installed(module.read_text()))
     for tool in TOOLS:
+        put(share / (tool + ".py"), (TOP / "tools" / (tool + ".py")).read_bytes(), 0o755)
         link = tree / "usr" / "bin" / command_of(tool)
         link.parent.mkdir(parents=True, exist_ok=True)
         link.symlink_to("../share/haboob/%s.py" % tool)
@@ -244,7 +232,7 @@ def put_pages(tree, number, seconds):
     for word in subcommands(program):
         pages["haboob-" + word] = ([program, word], help_of(program, word).split("\n")[0])
     for tool in TOOLS:
-        path = tree / "usr" / "share" / "haboob" / (tool + ".py")
+        path = tree / "usr" / "share" / "haboob" / MODULES / (tool + ".py")
         told = re.search(r'^"""(.*?)(?:\n\n|""")', path.read_text(), re.MULTILINE | re.DOTALL).group(1)
         pages[command_of(tool)] = ([tree / "usr" / "bin" / command_of(tool)], " ".join(told.split()))
     with tempfile.TemporaryDirectory() as room:

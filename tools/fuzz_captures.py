@@ -28,10 +28,7 @@ import test_capture_from_pcap as made
 import test_timeline as tables
 from test_support import DATA, GET, SERVED, read_capture
 
-import capture_from_log
-import capture_from_pcap
-import timeline
-import tool_run
+from haboob_tools import capture_from_log, capture_from_pcap, timeline, tool_run
 
 LONGEST = 20  # seconds of the processor's time
 LONGEST_WAIT = 600  # seconds

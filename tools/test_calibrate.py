@@ -27,17 +27,12 @@ import unittest.mock
 
 TOOLS = pathlib.Path(__file__).resolve().parent
 sys.path.insert(0, str(TOOLS))
-import calibrate
-import cost_fit
 import dpkt
-import input_files
-import measured_times
+import h11
 import numpy
-import request_text
-import response_delays
-import route_search
-import settings_documents
-import tool_run
+
+from haboob_tools import (calibrate, cost_fit, input_files, measured_times, request_text, response_delays, route_search,
+                          settings_documents, tool_run)
 
 MUTATIONS = int(os.environ.get("MUTATIONS", 60))
 DATA = TOOLS / "data"
@@ -47,6 +42,7 @@ COUNT = 2_400
 PIECE = 30_000  # bytes of a packet
 SEGMENT = 1_448  # bytes of a packet as Ethernet mostly has it
 MIB = 1_048_576
+GET_A = b"GET /a HTTP/1.1\r\nHost: a\r\n\r\n"
 PROGRAM = TOOLS.parent / "crates" / "haboob" / "out" / "haboob"
 FORMATS = TOOLS.parent / "docs" / "FORMATS.md"
 
@@ -128,10 +124,10 @@ BEHIND = ('$remote_addr "$request" $status $body_bytes_sent $msec $request_time 
           '"$upstream_connect_time"')
 
 
-def packet(time, from_client, port, sequence, flags, data=b""):
+def packet(time, from_client, port, sequence, flags, data=b"", acknowledged=0):
     """A packet of a connection between a client's port and port 80, with its time in microseconds."""
     ports = {"sport": port, "dport": 80} if from_client else {"sport": 80, "dport": port}
-    tcp = dpkt.tcp.TCP(seq=sequence, flags=flags, data=data, **ports)
+    tcp = dpkt.tcp.TCP(seq=sequence, ack=acknowledged, flags=flags, data=data, **ports)
     hosts = [socket.inet_aton("10.0.0.1"), socket.inet_aton("10.0.0.2")][::1 if from_client else -1]
     ip = dpkt.ip.IP(src=hosts[0], dst=hosts[1], p=dpkt.ip.IP_PROTO_TCP, data=tcp)
     ip.len = len(ip)
@@ -173,19 +169,26 @@ def values_of(text):
 
 
 class Counted:
-    """A pattern that counts the bytes that it is given to look at, and fails where they are more than so many."""
+    """What h11 does with bytes: takes them, and searches them for a head's end. It fails where it is more than so many.
+    """
 
-    def __init__(self, pattern, most):
-        self.pattern, self.left = pattern, most
+    def __init__(self, most):
+        self.left = most
+        self.pattern, self.take = h11._receivebuffer.blank_line_regex, h11.Connection.receive_data
+
+    def patches(self):
+        counted = self
+        return (unittest.mock.patch.object(h11._receivebuffer, "blank_line_regex", self),
+                unittest.mock.patch.object(h11.Connection, "receive_data", lambda *words: counted.receive(*words)))
 
     def search(self, text, place=0):
         found = self.pattern.search(text, place)
         self.count((found.end() if found else len(text)) - place)
         return found
 
-    def match(self, text):
-        self.count(len(text))
-        return self.pattern.match(text)
+    def receive(self, connection, data):
+        self.count(len(data))
+        self.take(connection, data)
 
     def count(self, looked_at):
         self.left -= looked_at
@@ -672,8 +675,8 @@ class Readers(unittest.TestCase):
     def opened(self):
         return (packet(0, True, 9, 0, dpkt.tcp.TH_SYN), packet(1, False, 9, 0, dpkt.tcp.TH_SYN | dpkt.tcp.TH_ACK))
 
-    def data(self, time, from_client, sequence, data, flags=dpkt.tcp.TH_ACK):
-        return packet(time, from_client, 9, sequence, flags, data)
+    def data(self, time, from_client, sequence, data, flags=dpkt.tcp.TH_ACK, acknowledged=0):
+        return packet(time, from_client, 9, sequence, flags, data, acknowledged)
 
     def times(self, measured):
         begin = START * SECOND
@@ -681,7 +684,7 @@ class Readers(unittest.TestCase):
 
     def test_pipelined(self):
         """Two requests at once, the second with a body that comes later; both answers in one packet."""
-        head = b"GET /a HTTP/1.1\r\n\r\nPOST /b HTTP/1.1\r\nContent-Length: 3\r\n\r\n"
+        head = b"GET /a HTTP/1.1\r\nHost: a\r\n\r\nPOST /b HTTP/1.1\r\nHost: a\r\nContent-Length: 3\r\n\r\n"
         answers = b"HTTP/1.1 200 OK\r\nContent-Length: 2\r\n\r\nhi" + b"HTTP/1.1 204 No\r\n\r\n"
         measured, left_out = self.measured(*self.opened(), self.data(10, True, 1, head),
                                            self.data(20, True, 1 + len(head), b"abc"), self.data(50, False, 1, answers))
@@ -695,7 +698,7 @@ class Readers(unittest.TestCase):
         for cut in range(1, len(answer)):
             measured, _ = self.measured(
                 *self.opened(),
-                self.data(10, True, 1, b"GET / HTTP/1.1\r\n\r\n"),
+                self.data(10, True, 1, b"GET / HTTP/1.1\r\nHost: a\r\n\r\n"),
                 self.data(40, False, 1, answer[:cut]),
                 self.data(60, False, 1 + cut, answer[cut:]))
             self.assertEqual(self.times(measured), [(10, 60, "GET", 200, 13)], cut)
@@ -705,7 +708,7 @@ class Readers(unittest.TestCase):
         """
         answers = (b"HTTP/1.1 200 OK\r\nTransfer-Encoding: chunked\r\n\r\n3\r\nabc\r\n0\r\nA: b\r\nC: d\r\n\r\n"
                    b"HTTP/1.1 404 No\r\nContent-Length: 0\r\n\r\n")
-        request = b"GET / HTTP/1.1\r\n\r\n"
+        request = b"GET / HTTP/1.1\r\nHost: a\r\n\r\n"
         measured, left_out = self.measured(
             *self.opened(), self.data(10, True, 1, 2 * request),
             *(self.data(100 + place, False, 1 + place, answers[place:place + 1]) for place in range(len(answers))))
@@ -716,9 +719,9 @@ class Readers(unittest.TestCase):
     def test_chunks_of_a_request(self):
         """The bytes of a POST with a body of chunks come one by one, from 100 on, and then those of a GET: each request
         comes with its last byte, the POST with the end of its trailer. A length beside chunks doesn't count."""
-        post = (b"POST /a HTTP/1.1\r\nContent-Length: 2\r\nTransfer-Encoding: gzip, chunked\r\n\r\n"
+        post = (b"POST /a HTTP/1.1\r\nHost: a\r\nContent-Length: 2\r\nTransfer-Encoding: chunked\r\n\r\n"
                 b"3\r\nabc\r\nA;x=y\r\nGET / HTTP\r\n0\r\nA: b\r\n\r\n")
-        requests = post + b"GET /b HTTP/1.1\r\n\r\n"
+        requests = post + b"GET /b HTTP/1.1\r\nHost: a\r\n\r\n"
         answers = b"HTTP/1.1 100 Continue\r\n\r\nHTTP/1.1 204 No\r\n\r\nHTTP/1.1 404 No\r\nContent-Length: 2\r\n\r\nno"
         measured, left_out = self.measured(
             *self.opened(),
@@ -734,18 +737,17 @@ class Readers(unittest.TestCase):
         packets = [self.data(10 if from_client else 20, from_client, 1 + place, data[place:place + size])
                    for from_client, data in ((True, client), (False, server)) for place in range(0, len(data), size)]
         with contextlib.ExitStack() as patches:
-            for name in ("HEAD_END", "CHUNK"):
-                counted = Counted(getattr(request_text, name), 5 * (len(client) + len(server)))
-                patches.enter_context(unittest.mock.patch.object(request_text, name, counted))
+            for patch in Counted(5 * (len(client) + len(server))).patches():
+                patches.enter_context(patch)
             measured, left_out = self.measured(*self.opened(), *packets)
         return self.times(measured), +left_out
 
     def test_no_http(self):
         """What is no HTTP, or none from a place on, is given up, however much comes."""
-        get, ok, more = b"GET / HTTP/1.1\r\n\r\n", b"HTTP/1.1 200 OK\r\n", bytes(range(14, 256)) * 2_000
+        get, ok, more = b"GET / HTTP/1.1\r\nHost: a\r\n\r\n", b"HTTP/1.1 200 OK\r\n", bytes(range(14, 256)) * 2_000
         most = more * (8 * MIB // len(more) + 1)
         chunks = ok + b"Transfer-Encoding: chunked\r\n\r\n"
-        chunked = b"POST / HTTP/1.1\r\nTransfer-Encoding: chunked\r\n\r\n"
+        chunked = b"POST / HTTP/1.1\r\nHost: a\r\nTransfer-Encoding: chunked\r\n\r\n"
         hello = b"\x16\x03\x01\x02\x00\x01\x00\x01\xfc\x03\x03"
         switched = b"HTTP/1.1 101 Switching Protocols\r\nUpgrade: websocket\r\nConnection: Upgrade\r\n\r\n"
         for name, client, server in (
@@ -753,6 +755,9 @@ class Readers(unittest.TestCase):
                 ("a line of a chunk without an end", get, chunks + b"5;" + more), ("no chunk", get, chunks + b"x\r\n"),
                 ("a line of a trailer without an end", get, chunks + b"0\r\nA: " + more),
                 ("no chunk of a request", chunked + b"x\r\n", b""), ("a client's bytes", more, b""),
+                ("a coding beside chunks", chunked.replace(b": c", b": gzip, c") + b"0\r\n\r\n", ok),
+                ("a tunnel", b"CONNECT a:1 HTTP/1.1\r\nHost: a:1\r\n\r\n", ok + b"\r\n" + more),
+                ("a server that begins", b"", b"220 mail\r\n"),
                 ("WebSocket", get, switched + most),
                 ("WebSocket with an empty line", get, switched + b"\x82\x04\r\n\r\n"),
                 ("a TLS hello", hello + more[:300], b""), ("a TLS hello, and an answer", hello, hello + more),
@@ -763,12 +768,16 @@ class Readers(unittest.TestCase):
         self.assertEqual(both, ([(10, 20, "GET", 200, 2)], {measured_times.NO_HTTP: 1}))
 
     def test_work_grows_with_the_bytes(self):
-        """A head that comes byte by byte, and a body in chunks of one byte, are looked at once."""
-        get, ok = b"GET / HTTP/1.1\r\n\r\n", b"HTTP/1.1 200 OK\r\n"
+        """A head that comes byte by byte, and a body in chunks of one byte, are looked at once; so are requests and
+        answers of which many come in one segment."""
+        get, ok = b"GET / HTTP/1.1\r\nHost: a\r\n\r\n", b"HTTP/1.1 200 OK\r\n"
         answer = ok + b"A: %b\r\nContent-Length: 0\r\n\r\n" % (5000 * b"x")
         self.assertEqual(self.exchanged(get, answer, 1), ([(10, 20, "GET", 200, 0)], {}))
         chunks = ok + b"Transfer-Encoding: chunked\r\n\r\n" + 20_000 * b"1\r\nx\r\n" + b"0\r\n\r\n"
         self.assertEqual(self.exchanged(get, chunks, 60_000), ([(10, 20, "GET", 200, 20_000)], {}))
+        long = get[:-2] + b"A: %b\r\n\r\n" % (900 * b"x")
+        answers = 100 * (ok + b"Content-Length: 900\r\n\r\n" + 900 * b"x")
+        self.assertEqual(self.exchanged(100 * long, answers, 60_000), (100 * [(10, 20, "GET", 200, 900)], {}))
 
     def test_until_end(self):
         """An answer without a length ends with the connection."""
@@ -777,18 +786,142 @@ class Readers(unittest.TestCase):
             self.data(40, False, 1, b"HTTP/1.0 200 OK\r\n\r\nhello"), self.data(70, False, 25, b"", dpkt.tcp.TH_FIN))
         self.assertEqual(self.times(measured), [(10, 70, "GET", 200, 5)])
 
+    def test_until_end_in_other_ways(self):
+        """The end comes with the last bytes, before bytes that were late, or as a reset; an answer with a length that
+        isn't whole then is none."""
+        head, ok = b"HTTP/1.1 200 OK\r\n\r\n", [(10, 70, "GET", 200, 5)]
+        long = head.replace(b"K\r\n", b"K\r\nContent-Length: 9\r\n")
+        fin, rst = dpkt.tcp.TH_FIN | dpkt.tcp.TH_ACK, dpkt.tcp.TH_RST
+        place = 1 + len(head)
+        for name, times, *packets in (
+                ("with the last bytes", ok, (40, 1, head + b"he"), (70, place + 2, b"llo", fin)),
+                ("before late bytes", ok, (40, 1, head), (50, place + 2, b"llo", fin), (70, place, b"he")),
+                ("a reset", ok, (40, 1, head + b"hello"), (70, place + 5, b"", rst), (80, place + 5, b"", rst)),
+                ("not whole", [], (40, 1, long + b"hello"), (70, 1 + len(long) + 5, b"", fin))):
+            with self.subTest(name):
+                measured, left_out = self.measured(*self.opened(), self.data(10, True, 1, GET_A), *(
+                    self.data(time, False, *packet) for time, *packet in packets))
+                self.assertEqual(self.times(measured), times)
+                self.assertEqual(+left_out, {} if times else {measured_times.UNANSWERED: 1})
+
     def test_sent_twice(self):
         """A segment that is sent twice counts once; one that is missing ends the connection."""
-        request, answer = b"GET / HTTP/1.1\r\n\r\n", b"HTTP/1.1 404 No\r\nContent-Length: 0\r\n\r\n"
+        request, answer = b"GET / HTTP/1.1\r\nHost: a\r\n\r\n", b"HTTP/1.1 404 No\r\nContent-Length: 0\r\n\r\n"
         twice = [self.data(10, True, 1, request), self.data(15, True, 1, request), self.data(30, False, 1, answer),
                  self.data(35, False, 1, answer)]
         self.assertEqual(self.times(self.measured(*self.opened(), *twice)[0]), [(10, 30, "GET", 404, 0)])
         measured, left_out = self.measured(*self.opened(), twice[0], self.data(30, False, 5, answer))
         self.assertEqual((measured, left_out[measured_times.LOST]), ([], 1))
 
+    def test_out_of_order(self):
+        """What comes before its time waits for what is before it: a request and an answer come with their last hole."""
+        request, answer = GET_A, b"HTTP/1.1 200 OK\r\nContent-Length: 6\r\n\r\nabcdef"
+        last = len(answer) - 3
+        measured, left_out = self.measured(
+            *self.opened(), self.data(10, True, 6, request[5:]), self.data(14, True, 1, request[:5]),
+            self.data(30, False, 1 + last, answer[last:]), self.data(40, False, 1, answer[:9]),
+            self.data(55, False, 10, answer[9:last]))
+        self.assertEqual((self.times(measured), +left_out), ([(14, 55, "GET", 200, 6)], {}))
+
+    def test_sent_again(self):
+        """Segments that are sent again: one whole, one that holds what came and what is missing, one within another;
+        and of the next exchange both sides' first ones, late."""
+        answer = b"HTTP/1.1 200 OK\r\nContent-Length: 6\r\n\r\nabcdef"
+        end = 1 + len(answer)
+        measured, left_out = self.measured(
+            *self.opened(), self.data(10, True, 1, GET_A), self.data(20, True, 1, GET_A),
+            self.data(30, False, 1, answer[:9]), self.data(35, False, 21, answer[20:]),
+            self.data(40, False, 4, answer[3:30]), self.data(45, False, 5, answer[4:8]),
+            self.data(50, True, 1 + len(GET_A), GET_A), self.data(55, True, 1, GET_A),
+            self.data(60, False, 1, answer), self.data(70, False, end, answer))
+        self.assertEqual((self.times(measured), +left_out), ([(10, 40, "GET", 200, 6), (50, 70, "GET", 200, 6)], {}))
+
+    def test_lost(self):
+        """Bytes that are missing for good: the other side acknowledges them, the file or the connection ends, or more
+        than 1 MiB waits for them. The exchange before counts."""
+        answer = b"HTTP/1.1 200 OK\r\nContent-Length: 6\r\n\r\nabcdef"
+        end, late = 1 + len(answer), 1 + len(GET_A)
+        begin = (*self.opened(), self.data(10, True, 1, GET_A), self.data(20, False, 1, answer),
+                 self.data(30, True, late, GET_A), self.data(40, False, end + 9, answer[9:]))
+        filled = self.data(60, False, end, answer[:9])
+        both = [(10, 20, "GET", 200, 6), (30, 60, "GET", 200, 6)]
+        for name, packets, times in (
+                ("none", [self.data(50, True, late, b"", acknowledged=end), filled], both),
+                ("acknowledged", [self.data(50, True, late, b"", acknowledged=2 * end - 1), filled], both[:1]),
+                ("the file's end", [], both[:1]),
+                ("a reset", [self.data(50, False, end, b"", dpkt.tcp.TH_RST), filled], both[:1]),
+                ("1 MiB", [self.data(50, False, end + 9 + place, PIECE * b"x") for place in range(0, MIB, PIECE)]
+                 + [filled], both[:1])):
+            with self.subTest(name):
+                measured, left_out = self.measured(*begin, *packets)
+                self.assertEqual(self.times(measured), times)
+                self.assertEqual(+left_out, {} if times == both else {measured_times.LOST: 1})
+
+    def test_folded(self):
+        """Fields of an answer and of its trailer that go on in a second line (RFC 9112, 5.2)."""
+        answer = (b"HTTP/1.1 200 OK\r\nA: b\r\n c\r\nTransfer-Encoding:\r\n\tchunked\r\n\r\n"
+                  b"5\r\nhello\r\n0\r\nB: c\r\n  d\r\n")
+        self.check_answers([b"GET"], [(40, answer), (60, b"\r\n")], [(60, "GET", 200, 5)])
+
+    def test_without_a_body(self):
+        """The fields of an answer to HEAD, and of a 304, tell a body that isn't there; a 204 has none."""
+        self.check_answers(
+            [b"HEAD", b"HEAD", b"GET", b"GET", b"GET"],
+            [(30, b"HTTP/1.1 200 OK\r\nContent-Length: 9\r\n\r\n"),
+             (40, b"HTTP/1.1 200 OK\r\nTransfer-Encoding: chunked\r\n\r\n"),
+             (50, b"HTTP/1.1 304 Not Modified\r\nContent-Length: 9\r\n\r\n"), (60, b"HTTP/1.1 204 No Content\r\n\r\n"),
+             (70, b"HTTP/1.1 200 OK\r\nContent-Length: 1\r\n\r\na")],
+            [(30, "HEAD", 200, 0), (40, "HEAD", 200, 0), (50, "GET", 304, 0), (60, "GET", 204, 0), (70, "GET", 200, 1)])
+
+    def check_answers(self, methods, answers, expected):
+        """Requests at 10, all at once, and the parts of their answers with their times; nothing is left out."""
+        requests = b"".join(method + b" / HTTP/1.1\r\nHost: a\r\n\r\n" for method in methods)
+        packets, place = [self.data(10, True, 1, requests)], 1
+        for time, part in answers:
+            packets.append(self.data(time, False, place, part))
+            place += len(part)
+        measured, left_out = self.measured(*self.opened(), *packets)
+        self.assertEqual((self.times(measured), +left_out), ([(10, *one) for one in expected], {}))
+
+    def test_continue(self):
+        """A body that is sent when the server asks for it: the request comes with its last byte, and 100 and 103 are no
+        answers."""
+        head = b"POST / HTTP/1.1\r\nHost: a\r\nExpect: 100-continue\r\nContent-Length: 4\r\n\r\n"
+        asks = b"HTTP/1.1 100 Continue\r\n\r\n"
+        answer = b"HTTP/1.1 103 Early Hints\r\nLink: </a>\r\n\r\nHTTP/1.1 201 Created\r\nContent-Length: 2\r\n\r\nok"
+        measured, left_out = self.measured(
+            *self.opened(), self.data(10, True, 1, head), self.data(15, False, 1, asks),
+            self.data(20, True, 1 + len(head), b"ab"), self.data(25, True, 3 + len(head), b"cd"),
+            self.data(40, False, 1 + len(asks), answer))
+        self.assertEqual((self.times(measured), +left_out), ([(25, 40, "POST", 201, 2)], {}))
+
+    def test_answered_before_its_body(self):
+        """Then the request came with its head."""
+        head = b"POST / HTTP/1.1\r\nHost: a\r\nContent-Length: 9\r\n\r\n"
+        measured, _ = self.measured(
+            *self.opened(), self.data(10, True, 1, head), self.data(20, True, 1 + len(head), b"ab"),
+            self.data(30, False, 1, b"HTTP/1.1 413 Too Large\r\nContent-Length: 0\r\n\r\n"),
+            self.data(40, True, 3 + len(head), b"cdefghi"))
+        self.assertEqual(self.times(measured), [(10, 30, "POST", 413, 0)])
+
+    def test_connection_kept_by_http_1_0(self):
+        """Requests of HTTP/1.0, one after another on one connection, the second after an empty line."""
+        get, ok = b"GET / HTTP/1.0\r\nConnection: keep-alive\r\n\r\n", b"HTTP/1.0 200 OK\r\nContent-Length: 2\r\n\r\nok"
+        measured, left_out = self.measured(
+            *self.opened(), self.data(10, True, 1, get), self.data(20, False, 1, ok),
+            self.data(25, True, 1 + len(get), b"\r\n"), self.data(30, True, 3 + len(get), get),
+            self.data(40, False, 1 + len(ok), ok))
+        self.assertEqual((self.times(measured), +left_out), ([(10, 20, "GET", 200, 2), (30, 40, "GET", 200, 2)], {}))
+
+    def test_unasked(self):
+        """An answer that nobody asked for, as where a server gives up a connection on which nothing comes."""
+        answer = b"HTTP/1.1 408 Request Timeout\r\nContent-Length: 0\r\n\r\n"
+        measured, left_out = self.measured(*self.opened(), self.data(10, False, 1, answer))
+        self.assertEqual((measured, +left_out), ([], {measured_times.LOST: 1}))
+
     def test_closed(self):
         """The packets that close a connection are no hole."""
-        request, answer = b"GET / HTTP/1.1\r\n\r\n", b"HTTP/1.1 404 No\r\nContent-Length: 0\r\n\r\n"
+        request, answer = b"GET / HTTP/1.1\r\nHost: a\r\n\r\n", b"HTTP/1.1 404 No\r\nContent-Length: 0\r\n\r\n"
         closing = dpkt.tcp.TH_FIN | dpkt.tcp.TH_ACK
         measured, left_out = self.measured(
             *self.opened(), self.data(10, True, 1, request), self.data(30, False, 1, answer),
@@ -808,7 +941,7 @@ class Readers(unittest.TestCase):
         self.assertEqual(collections.Counter(one.method for one in measured), {"GET": 76, "POST": 1})
 
     def test_middle(self):
-        measured, left_out = self.measured(self.data(10, True, 1, b"GET / HTTP/1.1\r\n\r\n"))
+        measured, left_out = self.measured(self.data(10, True, 1, b"GET / HTTP/1.1\r\nHost: a\r\n\r\n"))
         self.assertEqual((measured, left_out[measured_times.MIDDLE]), ([], 1))
 
 

@@ -27,11 +27,7 @@ import zlib
 import test_support
 from test_support import DATA, GET, SERVED, START, TOOLS, capture, read_capture, requests_in, sent_requests, traffic
 
-import capture_from_log
-import capture_writer
-import input_files
-import log_blocks
-import log_requests
+from haboob_tools import capture_from_log, capture_writer, input_files, log_blocks, log_requests
 
 SMALL = capture_writer.CAPTURE._replace(messages=3)
 
@@ -713,7 +709,7 @@ class Faults(test_support.ToolTest):
         with open(os.path.join(SERVED, "nginx_timed.log"), "rb") as file:
             text = file.read()
         for step, lines in ((0.0, True), (10.0, False)):
-            with unittest.mock.patch("tool_run.PROGRESS_STEP", step):
+            with unittest.mock.patch("haboob_tools.tool_run.PROGRESS_STEP", step):
                 _, said = self.run_tool(capture_from_log, [], text)
             found = re.findall(r"^capture_from_log: .*\[\d\d:\d\d<.*$", said, re.MULTILINE)
             self.assertEqual(bool(found), lines, said)

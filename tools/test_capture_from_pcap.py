@@ -22,9 +22,7 @@ import test_support
 from test_support import DATA, GET, START, TOOLS, capture, read_capture, requests_in, sent_requests, texts_of
 from test_support import texts_of_lives, traffic
 
-import capture_from_log
-import capture_from_pcap
-import capture_writer
+from haboob_tools import capture_from_log, capture_from_pcap, capture_writer
 
 SYN, FIN, RST, ACK = 2, 1, 4, 16
 CLIENT, SERVER = (bytes([10, 0, 0, 1]), 4000), (bytes([10, 0, 0, 2]), 80)
@@ -708,7 +706,7 @@ class Faults(test_support.ToolTest):
             self.assertEqual(len(texts_of(read_capture(file.read())[1])), 15)
 
     def test_progress_without_a_terminal(self):
-        with unittest.mock.patch("tool_run.PROGRESS_STEP", 0.0):
+        with unittest.mock.patch("haboob_tools.tool_run.PROGRESS_STEP", 0.0):
             _, said = self.run_tool(capture_from_pcap, ["--port", "18098"], "loopback.pcap")
         self.assertRegex(said, r"(?m)^capture_from_pcap: 100% .*\[\d\d:\d\d<.*\]$")
 

@@ -9,7 +9,7 @@ import unittest
 
 from test_support import GET, START, capture, read_capture, traffic
 
-import capture_writer
+from haboob_tools import capture_writer
 
 
 class Limits(unittest.TestCase):

@@ -6,6 +6,7 @@ disk, Ctrl-C and a kill, and what is said of wrong words and of a library that i
 """
 import ast
 import os
+import pathlib
 import resource
 import signal
 import stat
@@ -17,13 +18,13 @@ import unittest
 
 TOOLS = os.path.dirname(os.path.abspath(__file__))
 sys.path.insert(0, TOOLS)
-import output_file
+from haboob_tools import output_file
 
 # A tool that writes 100,000 bytes, says so, and waits until its standard input ends; then it goes on as it is told.
 TOOL = """
 import sys
 sys.path.insert(0, %r)
-import output_file, tool_run
+from haboob_tools import output_file, tool_run
 def work():
     with output_file.replacing(sys.argv[1]) as file:
         file.write(b"new" * 33333)
@@ -40,7 +41,7 @@ sys.exit(tool_run.run("tool", work))
 ASKED_TWICE = """
 import itertools, mmap, os, sys
 sys.path.insert(0, %r)
-import output_file, tool_run
+from haboob_tools import output_file, tool_run
 path, asked, again = sys.argv[1], *map(int, sys.argv[2:])
 is_twice = mmap.mmap(-1, 1)
 def before_line(frame, event, value):
@@ -71,7 +72,7 @@ for left in itertools.count(1):
 NOISY_TOOL = """
 import contextlib, os, sys
 sys.path.insert(0, %r)
-import output_file, tool_run
+from haboob_tools import output_file, tool_run
 def work():
     with output_file.replacing(sys.argv[1]) as file:
         for number in (0, 1, 2):
@@ -106,11 +107,12 @@ RIGHT_WORDS = {
 }
 # Libraries by the packages of Debian that have them (packages.debian.org, by file), and those that each tool can't do
 # without: matplotlib and scipy need numpy.
-PACKAGES = {"distributed": "python3-distributed", "dpkt": "python3-dpkt", "matplotlib": "python3-matplotlib",
-            "numpy": "python3-numpy", "scipy": "python3-scipy", "tqdm": "python3-tqdm"}
+PACKAGES = {"distributed": "python3-distributed", "dpkt": "python3-dpkt", "h11": "python3-h11",
+            "matplotlib": "python3-matplotlib", "numpy": "python3-numpy", "scipy": "python3-scipy",
+            "tqdm": "python3-tqdm"}
 NEEDED = {
-    "calibrate": {"dpkt", "matplotlib", "numpy", "scipy", "tqdm"}, "capture_from_log": {"tqdm"},
-    "capture_from_pcap": {"dpkt", "tqdm"}, "timeline": {"matplotlib", "numpy", "tqdm"},
+    "calibrate": {"dpkt", "h11", "matplotlib", "numpy", "scipy", "tqdm"}, "capture_from_log": {"tqdm"},
+    "capture_from_pcap": {"dpkt", "h11", "tqdm"}, "timeline": {"matplotlib", "numpy", "tqdm"},
     "sweep": {"matplotlib", "numpy", "scipy", "tqdm"},
 }
 SEARCHING = ["--output", "a", "--snapshot", "b", "--capture", "c", "--set", "policy.depth=1..9", "--search", "10",
@@ -494,17 +496,13 @@ class Libraries(OutputTest):
 
     def test_that_these_are_all(self):
         """What the tools and their modules import is of Python, of theirs, or among these."""
-        own = {name.removesuffix(".py") for name in os.listdir(TOOLS)}
-        ahead, seen, imported = list(NEEDED), set(), set()
-        while ahead:
-            name = ahead.pop()
-            seen.add(name)
-            with open(os.path.join(TOOLS, name + ".py"), encoding="utf-8") as file:
-                tree = ast.parse(file.read())
-            found = {name.partition(".")[0] for node in ast.walk(tree) for name in imports_of(node)}
-            ahead += found & own - seen
-            imported |= found - own - sys.stdlib_module_names - {"compression"}  # which Python has from 3.14 on
-        self.assertEqual(imported, PACKAGES.keys())
+        imported = set()
+        for path in [*pathlib.Path(TOOLS, "haboob_tools").glob("*.py"),
+                     *(pathlib.Path(TOOLS, name + ".py") for name in NEEDED)]:
+            for node in ast.walk(ast.parse(path.read_text(encoding="utf-8"))):
+                imported |= {name.partition(".")[0] for name in imports_of(node)}
+        # Python has `compression` from 3.14 on.
+        self.assertEqual(imported - sys.stdlib_module_names - {"compression", "haboob_tools"}, PACKAGES.keys())
 
 
 def imports_of(node):
@@ -512,7 +510,7 @@ def imports_of(node):
     if isinstance(node, ast.Import):
         return [one.name for one in node.names]
     if isinstance(node, ast.ImportFrom):
-        return [node.module]
+        return [] if node.level else [node.module]
     if isinstance(node, ast.Call) and ast.unparse(node.func).rpartition(".")[2] == "library":
         return [one.value for one in node.args if isinstance(one, ast.Constant)]
     return []

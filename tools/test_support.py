@@ -19,7 +19,7 @@ SERVED = os.path.join(DATA, "served")
 TOP = os.path.dirname(TOOLS)
 PROGRAM = os.path.join(TOP, "crates", "haboob", "out", "haboob")
 sys.path.insert(0, TOOLS)
-import tool_run
+from haboob_tools import tool_run
 
 SNAPSHOT = os.path.join(TOP, "examples", "site.snapshot")
 START = 784111777

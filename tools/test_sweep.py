@@ -31,17 +31,8 @@ TOP = TOOLS.parent
 PROGRAM = TOP / "crates" / "haboob" / "out" / "haboob"
 EXAMPLES = TOP / "examples"
 sys.path.insert(0, str(TOOLS))
-import decision_tables
-import pages
-import response_delays
-import server_lines
-import settings_documents
-import spreadsheets
-import sweep
-import sweep_figures
-import sweep_page
-import sweep_search
-import tool_run
+from haboob_tools import (decision_tables, pages, response_delays, server_lines, settings_documents, spreadsheets,
+                          sweep, sweep_figures, sweep_page, sweep_search, tool_run)
 
 SECONDS = 60  # that a test waits at most
 MUTATIONS = int(os.environ.get("MUTATIONS", 25))  # damaged files that are tried
@@ -1099,6 +1090,11 @@ class OnCluster(Base):
         status, errors = swept(words)
         self.assertEqual((status, self.folder.table()), (0, TABLE), errors)
         self.assertEqual([call[:2] for call in self.folder.calls()], [key.split() for key in ANSWERS])
+        # The modules of a sweep take the place of those of the sweep before.
+        other = self.folder.path / "other.py"
+        other.write_text("import os\ndef digest_of_program(_):\n    return os.getpid()\n")
+        with unittest.mock.patch.object(decision_tables, "__file__", str(other)):
+            self.check(words, 1, "sweep: %s: not the same program on all workers" % address)
         # A sweep on this machine has the same results.
         self.assertIn("6 of them taken from before", swept(self.folder.words())[1])
         # A search runs on it, too.

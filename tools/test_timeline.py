@@ -24,10 +24,7 @@ import unittest.mock
 
 TOOLS = pathlib.Path(__file__).resolve().parent
 sys.path.insert(0, str(TOOLS))
-import pages
-import steps
-import timeline
-import tool_run
+from haboob_tools import pages, steps, timeline, tool_run
 
 MUTATIONS = int(os.environ.get("MUTATIONS", 300))
 HEADING = "number,connection,tick,tier,status,decision,service,credit,rate,start,finish,waited,method,target\n"
@@ -493,7 +490,7 @@ class Faults(Base):
     def test_progress(self):
         """Lines where standard error is no terminal."""
         table = HEADING + "".join(admitted(number, number, 1, target="/" + "a" * 4_000) for number in range(600))
-        with unittest.mock.patch("tool_run.PROGRESS_STEP", 0.0):
+        with unittest.mock.patch("haboob_tools.tool_run.PROGRESS_STEP", 0.0):
             status, error, _ = self.run_on(table)
         self.assertEqual(status, 0)
         self.assertRegex(error, r"^timeline: \d+% .*/2[.]\d+M \[\d\d:\d\d<.*B/s\]\n")

@@ -1,8 +1,7 @@
 """Makes the page of calibrate.py."""
 import html
 
-import pages
-import tool_run
+from . import pages, tool_run
 
 numpy = tool_run.library("numpy")
 

@@ -4,11 +4,9 @@ import html
 import os
 import statistics
 
-import pages
-import settings_documents
-import tool_run
-from pages import pyplot, ticker
-from sweep_figures import ANY, DEFINITIONS, TICKS_IN_MILLISECOND, TIMES, comparable, parts_of, several_tiers
+from . import pages, settings_documents, tool_run
+from .pages import pyplot, ticker
+from .sweep_figures import ANY, DEFINITIONS, TICKS_IN_MILLISECOND, TIMES, comparable, parts_of, several_tiers
 
 Bbox = tool_run.library("matplotlib.transforms").Bbox
 

@@ -6,8 +6,8 @@ import json
 import os
 import re
 
-from capture_writer import TICKS_IN_SECOND
-from tool_run import Fault
+from .capture_writer import TICKS_IN_SECOND
+from .tool_run import Fault
 
 COMMON = '$remote_addr $remote_identity $remote_user [$time_local] "$request" $status $body_bytes_sent'
 COMBINED = COMMON + ' "$http_referer" "$http_user_agent"'

@@ -4,9 +4,8 @@ A path is the text of its first segments, decoded, each after a slash; the empty
 """
 import collections
 
-import cost_fit
-import tool_run
-from response_delays import segments_of_prefix
+from . import cost_fit, tool_run
+from .response_delays import segments_of_prefix
 
 numpy = tool_run.library("numpy")
 

@@ -1,7 +1,7 @@
 """The check of a fit: what it predicts of the second half of the requests, beside what was measured."""
 import collections
 
-import tool_run
+from . import tool_run
 
 numpy = tool_run.library("numpy")
 

@@ -7,7 +7,7 @@ of each route for any answer and for each KiB of a file (docs/RULES.md, Service 
 import collections
 import heapq
 
-import tool_run
+from . import tool_run
 
 numpy = tool_run.library("numpy")
 linalg = tool_run.library("scipy.linalg")

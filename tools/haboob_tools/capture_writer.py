@@ -7,7 +7,7 @@ import heapq
 import ipaddress
 import re
 
-from tool_run import Fault
+from .tool_run import Fault
 
 START_LIMIT = 4_102_444_800  # seconds since 1970
 TICK_LIMIT = 10**15  # ticks, which are microseconds

@@ -2,7 +2,7 @@
 import os
 import sys
 
-from tool_run import Fault
+from .tool_run import Fault
 
 
 def printable(text):

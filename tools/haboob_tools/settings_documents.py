@@ -5,8 +5,8 @@ import json
 import re
 import tomllib
 
-from response_delays import segments_of_prefix
-from tool_run import Fault
+from .response_delays import segments_of_prefix
+from .tool_run import Fault
 
 SIZE_LIMIT = 65_536  # bytes
 TIERS = ("policy", "tier1", "tier2", "tier3")  # the tables of the tiers 0 to 3

@@ -1,7 +1,7 @@
 """Writes tables for spreadsheets, in which no cell is taken for a formula."""
 import csv
 
-import standard_output
+from . import standard_output
 
 # By which a spreadsheet tells a formula, also by the full-width forms of the four signs, or leaves the cell.
 FORMULA_BEGINS = ("=", "+", "-", "@", "\uff1d", "\uff0b", "\uff0d", "\uff20", "\t", "\r")

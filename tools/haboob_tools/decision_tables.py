@@ -16,7 +16,7 @@ import subprocess
 import tempfile
 import tomllib
 
-from response_delays import Delays
+from .response_delays import Delays
 
 HEADING = "number connection tick tier status decision service credit rate start finish waited method target".split()
 TIERS = 4

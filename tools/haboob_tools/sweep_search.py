@@ -1,5 +1,5 @@
 """Looks for the best of ranges of settings by an optimiser, in a bounded number of runs."""
-import tool_run
+from . import tool_run
 
 SEED = 1
 LEAST_POPULATION = 5  # which SciPy asks for

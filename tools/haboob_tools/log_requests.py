@@ -9,9 +9,8 @@ import operator
 import pickle
 import re
 
-import capture_writer
-import log_formats
-from log_formats import ABSENT, DURATIONS, TIMES, WITHOUT
+from . import capture_writer, log_formats
+from .log_formats import ABSENT, DURATIONS, TIMES, WITHOUT
 
 LINE_LIMIT = 65_536  # bytes; a longer line doesn't fit
 RUN_LENGTH = 100  # requests that are packed together

@@ -4,8 +4,7 @@ import io
 import math
 import re
 
-import standard_output
-import tool_run
+from . import standard_output, tool_run
 
 matplotlib = tool_run.library("matplotlib")
 matplotlib.use("svg")

@@ -2,8 +2,7 @@
 import argparse
 import sys
 
-import standard_output
-import tool_run
+from . import standard_output, tool_run
 
 
 class Parser(argparse.ArgumentParser):

@@ -4,7 +4,7 @@ import datetime
 import itertools
 import re
 
-from tool_run import Fault
+from .tool_run import Fault
 
 TICKS_IN_SECOND = 1_000_000
 MILLISECOND, SECOND, MINUTE, HOUR, DAY = 1_000, TICKS_IN_SECOND, 60_000_000, 3_600_000_000, 86_400_000_000

@@ -2,9 +2,8 @@
 import collections
 import struct
 
-import capture_writer
-import tool_run
-from tool_run import Fault
+from . import capture_writer, tool_run
+from .tool_run import Fault
 
 dpkt = tool_run.library("dpkt")
 

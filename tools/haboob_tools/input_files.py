@@ -8,7 +8,7 @@ import stat
 import sys
 import zlib
 
-from tool_run import Fault
+from .tool_run import Fault
 
 try:
     from compression import zstd  # in Python's own library from 3.14 on

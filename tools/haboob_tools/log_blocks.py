@@ -10,8 +10,8 @@ import pickle
 import signal
 import tempfile
 
-from log_requests import LINE_LIMIT, NEAR, RUN_LENGTH, SECOND, Block, packed, runs_of
-from tool_run import Fault
+from .log_requests import LINE_LIMIT, NEAR, RUN_LENGTH, SECOND, Block, packed, runs_of
+from .tool_run import Fault
 
 BLOCK_BYTES = 4_194_304
 SIGNALS = (signal.SIGINT, signal.SIGTERM, signal.SIGHUP)

@@ -20,11 +20,11 @@ import importlib
 import signal
 import time
 
-import output_file
+from . import output_file
 
 # The libraries of Debian's that the tools use, and the package that has each.
-PACKAGES = {"dpkt": "python3-dpkt", "matplotlib": "python3-matplotlib", "numpy": "python3-numpy",
-            "scipy": "python3-scipy", "tqdm": "python3-tqdm"}
+PACKAGES = {"dpkt": "python3-dpkt", "h11": "python3-h11", "matplotlib": "python3-matplotlib",
+            "numpy": "python3-numpy", "scipy": "python3-scipy", "tqdm": "python3-tqdm"}
 PROGRESS_STEP = 10.0  # seconds from line to line where standard error is no terminal
 WAITING_STEP = 1.0  # seconds after which who waits for others looks whether a line is due
 ENDING = (signal.SIGINT, signal.SIGTERM, signal.SIGHUP)  # signals that ask a tool to end

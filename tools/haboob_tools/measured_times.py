@@ -1,23 +1,17 @@
 """Reads how long a server took for each request: from recorded packets of both directions, or from access logs."""
 import array
 import collections
+import contextlib
 import functools
 import itertools
 import re
 
-import capture_from_pcap
-import capture_writer
-import input_files
-import log_formats
-import log_requests
-import packet_files
-import request_text
-import tool_run
-from request_text import NO_HTTP, Body, GivenUp, Text, body_of
-from response_delays import segments_of
-from tool_run import Fault
+from . import capture_writer, input_files, log_formats, log_requests, packet_files, tcp_streams, tool_run
+from .packet_files import dpkt
+from .response_delays import segments_of
+from .tool_run import Fault
 
-dpkt = packet_files.dpkt
+h11 = tool_run.library("h11")
 
 TOOL = "calibrate"
 NEEDED = ("status", "body_bytes_sent")
@@ -26,9 +20,9 @@ LINE_ROOM = 65_536  # bytes; a longer line doesn't fit
 SECOND = 1_000_000  # microseconds
 LONGEST = 2**62  # microseconds; times beyond are none
 DIGITS = 15  # of a number of bytes
-SEQUENCES = 2**32
+AT_ONCE = 4_096  # bytes that are given to h11 at a time: what comes after a message is given once more
+HEAD_LIMIT = 131_072  # bytes of a head, or of a line among chunks, that are waited for
 ANSWER_BEGIN = b"HTTP/1."
-STATUS = re.compile(rb"HTTP/1\.[01] ([0-9]{3})")
 FILES = (200, 206)  # statuses of answers that carry a file; 304 costs one, too
 NOT_MODIFIED = 304
 REFUSED = (503, 499)  # statuses of requests that were turned away, or for which nobody waited
@@ -38,7 +32,7 @@ PATH_ROOM = 120  # bytes of a path that are kept of those
 BEYOND = "requests after the first %d; take a busy time by --from and --to" % MOST
 OUTSIDE = "requests before --from or after --to"
 TURNED_AWAY = "answered 503 or 499"
-SWITCHED = 101  # the status after which a connection has another protocol (RFC 9110, 15.2.2)
+NO_HTTP = "connections that aren't HTTP, or no longer are (TLS, WebSocket)"
 LOST = "connections from a lost, cut or odd piece on"
 MIDDLE = "connections whose begin isn't there"
 UNANSWERED = "requests without a whole answer"
@@ -103,93 +97,111 @@ class Recorded:
         return BEYOND if len(self.columns["arrival"]) >= MOST else None
 
 
-class Side(Text):
-    """What one side of a connection sends, in order."""
+class GivenUp(Exception):
+    """Why a connection is read no further: LOST or NO_HTTP."""
 
-    def __init__(self, sequence):
-        super().__init__()
-        self.next = sequence % SEQUENCES
 
-    def take(self, sequence, data):
-        """Takes a segment's bytes; tells whether there is no hole before them."""
-        if not data:
-            return True
-        known = (self.next - sequence) % SEQUENCES
-        if known >= SEQUENCES // 2:
-            return False
-        fresh = data[known:]
-        self.text += fresh
-        self.next = (self.next + len(fresh)) % SEQUENCES
-        return True
+class Side(tcp_streams.Stream):
+    """What one side of a connection sends, in order and as HTTP."""
+
+    def __init__(self, sequence, reader):
+        """Takes the first byte's sequence number, and a function that gives what reads a message of these bytes on."""
+        super().__init__(sequence)
+        self.reader = reader
+        self.http = None  # what reads the message that comes
+
+    def events(self, data):
+        """What bytes tell: h11's events."""
+        for place in range(0, len(data), AT_ONCE):
+            rest = data[place:place + AT_ONCE]
+            while rest:
+                rest = yield from self.read(rest)
+
+    def read(self, data):
+        """The events of one message, which empty lines may precede (RFC 9112, 2.2); returns the bytes after it. Without
+        bytes it is the connection's end."""
+        if self.http is None:
+            data = data.lstrip(b"\r\n")
+            if not data:
+                return b""
+            self.http = self.reader(data)
+        self.http.receive_data(data)
+        while (event := self.http.next_event()) not in (h11.NEED_DATA, h11.PAUSED):
+            yield event
+            if type(event) is h11.EndOfMessage:
+                rest, self.http = self.http.trailing_data[0], None
+                return rest
+        if event is h11.PAUSED:  # a tunnel
+            raise GivenUp(NO_HTTP)
+        return b""
 
 
 class Exchange:
     """The requests of one connection and their answers."""
 
     def __init__(self, first, client=None, tiers=()):
-        self.client, self.server = Side(first), None
-        self.request_body = self.answer_body = None
+        self.client, self.server = Side(first, self.request_reader), None
         self.waiting = collections.deque()  # arrival, method and target of requests without an answer
-        self.status = None
+        self.asked = None  # the last of them that came, also where it was answered before its body came
+        self.status = self.size = None
         self.address, self.tiers, self.tier = client, tiers, None
 
-    def from_client(self, time):
-        """Reads the requests that are whole."""
-        while True:
-            if self.request_body and not self.end_request(time):
-                return
-            self.client.skip_line_ends()
-            if self.client.text.startswith(capture_from_pcap.TLS_BEGIN, self.client.at):
-                raise GivenUp(NO_HTTP)
-            head = self.client.up_to(request_text.HEAD_END)
-            if head is None:
-                return
-            method, target = (bytes(head).split(b" ", 2) + [b""])[:2]
-            if self.tier is None:
-                self.tier = capture_writer.tier_of(self.tiers, self.address, target)
-            self.waiting.append([time, method.decode("latin-1"), target])
-            self.request_body = body_of(head, 0)
+    def take(self, time, segment, is_request):
+        """Takes a segment; gives what was measured by it."""
+        if not is_request and segment.flags & dpkt.tcp.TH_SYN and self.server is None:
+            self.server = Side(segment.sequence + 1, self.answer_reader)
+        side, other = (self.client, self.server)[::1 if is_request else -1]
+        data = side.take(segment) if side else b""
+        is_reset = segment.flags & dpkt.tcp.TH_RST
+        if not side or side.is_cut() or side.is_full() or (is_reset and side.has_hole()) or (
+                other and other.is_lost(segment)):
+            raise GivenUp(LOST)
+        if is_request:
+            self.from_client(time, data)
+        else:
+            yield from self.from_server(time, data, is_reset or side.place == side.end)
 
-    def end_request(self, time):
-        """Takes what has come of a request's body; tells whether it is whole, and then the request came now."""
-        if not self.request_body.take(self.client):
-            return False
-        self.request_body = None
-        if self.waiting:  # else it was answered before
-            self.waiting[-1][0] = time
-        return True
+    def request_reader(self, _):
+        """What reads a request."""
+        return h11.Connection(h11.SERVER, HEAD_LIMIT)
 
-    def from_server(self, time, is_end=False):
-        """Reads the answers that are whole, each with its request."""
-        while self.server is not None:
-            if self.answer_body is None and not self.begin_answer():
-                return
-            ended = self.answer_body.take(self.server) or (is_end and self.answer_body.left is None)
-            if not ended:
-                return
-            arrival, method, target = self.waiting.popleft()
-            yield Measured(arrival, time, method, self.status, self.answer_body.size, target, None, self.tier)
-            self.answer_body = None
+    def from_client(self, time, data):
+        """Reads the client's bytes: a request comes with its last one."""
+        for event in self.client.events(data):
+            if type(event) is h11.Request:
+                if self.tier is None:
+                    self.tier = capture_writer.tier_of(self.tiers, self.address, event.target)
+                self.asked = [time, event.method, event.target]
+                self.waiting.append(self.asked)
+            elif type(event) is h11.EndOfMessage:
+                self.asked[0] = time
 
-    def begin_answer(self):
-        """Reads the next answer's head; tells whether it is there. Interim answers are read over."""
-        while True:
-            if not self.server.comes(ANSWER_BEGIN):
-                raise GivenUp(NO_HTTP)
-            head = self.server.up_to(request_text.HEAD_END)
-            if head is None:
-                return False
-            found = STATUS.match(head)
-            if not found or not self.waiting:
-                raise GivenUp(LOST)
-            self.status = int(found[1])
-            if self.status == SWITCHED:
-                raise GivenUp(NO_HTTP)
-            if self.status >= 200:
-                break
-        has_none = self.waiting[0][1] == "HEAD" or self.status in (204, 304)
-        self.answer_body = Body(0) if has_none else body_of(head, None)
-        return True
+    def answer_reader(self, data):
+        """What reads the answer to the first request that waits for one."""
+        if not self.waiting:
+            raise GivenUp(LOST if data.startswith(ANSWER_BEGIN) else NO_HTTP)
+        http = h11.Connection(h11.CLIENT, HEAD_LIMIT)
+        http.send(h11.Request(method=self.waiting[0][1], target=b"/", headers=[(b"Host", b"")]))
+        return http
+
+    def from_server(self, time, data, is_end):
+        """Reads the server's bytes, and maybe the connection's end; gives the answers that are whole by them, each with
+        its request."""
+        for event in itertools.chain(self.server.events(data), self.server_ended() if is_end else ()):
+            if type(event) is h11.Response:
+                self.status, self.size = event.status_code, 0
+            elif type(event) is h11.Data:
+                self.size += len(event.data)
+            elif type(event) is h11.EndOfMessage:
+                arrival, method, target = self.waiting.popleft()
+                yield Measured(arrival, time, method.decode("ascii"), self.status, self.size, target, None, self.tier)
+
+    def server_ended(self):
+        """What an answer's end tells that is the connection's."""
+        if self.server.http:
+            with contextlib.suppress(h11.RemoteProtocolError):  # an answer that isn't whole
+                yield from self.server.read(b"")
+            self.server.http = None
 
 
 class Connections:
@@ -202,69 +214,51 @@ class Connections:
 
     def take(self, time, segment):
         """Takes a segment at a time; gives what was measured by it."""
-        if segment.destination[1] in self.ports:
-            self.take_request(time, (segment.source, segment.destination), segment)
-        elif segment.source[1] in self.ports:
-            yield from self.take_answer(time, (segment.destination, segment.source), segment)
-
-    def take_request(self, time, key, segment):
-        """Takes a client's segment."""
-        if segment.flags & dpkt.tcp.TH_SYN:
-            self.open[key] = Exchange(segment.sequence + 1, capture_writer.client_of(key[0][0]), self.tiers)
+        is_request = segment.destination[1] in self.ports
+        if not is_request and segment.source[1] not in self.ports:
             return
-        exchange = self.open.get(key)
-        self.left_out[MIDDLE] += key not in self.open and bool(segment.data)
+        key = (segment.source, segment.destination)[::1 if is_request else -1]
+        exchange = self.exchange_of(key, segment) if is_request else self.open.get(key)
         if exchange is None:
-            self.open.setdefault(key, None)
-        elif not self.is_whole(exchange.client, segment):
-            self.lose(key, LOST)
-        else:
-            try:
-                exchange.from_client(time)
-                exchange.client.forget()
-            except GivenUp as reason:
-                self.lose(key, str(reason))
-
-    def take_answer(self, time, key, segment):
-        """Takes a server's segment."""
-        exchange = self.open.get(key)
-        if exchange is None:
-            return
-        if segment.flags & dpkt.tcp.TH_SYN:
-            exchange.server = Side(segment.sequence + 1)
-            return
-        if exchange.server is None or not self.is_whole(exchange.server, segment):
-            self.lose(key, LOST)
             return
         try:
-            yield from exchange.from_server(time, bool(segment.flags & (dpkt.tcp.TH_FIN | dpkt.tcp.TH_RST)))
-            exchange.server.forget()
+            yield from exchange.take(time, segment, is_request)
         except GivenUp as reason:
             self.lose(key, str(reason))
+        except h11.RemoteProtocolError:
+            self.lose(key, NO_HTTP)
 
-    def is_whole(self, side, segment):
-        """Takes a segment's bytes; tells whether none are missing before or in it."""
-        return not segment.cut and side.take(segment.sequence, segment.data)
+    def exchange_of(self, key, segment):
+        """The exchange that a client's segment belongs to, begun where the segment begins one; None where it is read no
+        further."""
+        exchange, first = self.open.get(key), (segment.sequence + 1) % tcp_streams.SEQUENCES
+        if segment.flags & dpkt.tcp.TH_SYN and not (exchange and exchange.client.first == first):
+            exchange = self.open[key] = Exchange(first, capture_writer.client_of(key[0][0]), self.tiers)
+        self.left_out[MIDDLE] += key not in self.open and bool(segment.data)
+        return self.open.setdefault(key, exchange)
 
     def lose(self, key, reason):
         """Gives a connection up; counts it by a reason."""
         self.left_out[reason] += 1
         self.open[key] = None
 
-    def count_unanswered(self):
-        """Counts the requests that had no answer."""
-        self.left_out[UNANSWERED] += sum(len(exchange.waiting) for exchange in self.open.values() if exchange)
+    def finish(self):
+        """Counts the connections that still wait for lost bytes, and the requests that had no answer."""
+        for exchange in filter(None, self.open.values()):
+            is_lost = any(side and side.has_hole() for side in (exchange.client, exchange.server))
+            self.left_out[LOST] += is_lost
+            self.left_out[UNANSWERED] += 0 if is_lost else len(exchange.waiting)
 
 
 def of_packets(inputs, recorded):
     """Reads inputs of packets, one after another."""
     connections = Connections(frozenset(recorded.wanted.ports), recorded.left_out, recorded.wanted.tiers)
     for one in inputs:
-        for packet in packet_files.packets(one, capture_from_pcap.check_link, recorded.left_out):
-            segment = capture_from_pcap.segment_of(packet, recorded.left_out)
+        for packet in packet_files.packets(one, tcp_streams.check_link, recorded.left_out):
+            segment = tcp_streams.segment_of(packet, recorded.left_out)
             for measured in connections.take(packet.time, segment) if segment is not None else ():
                 recorded.take(measured)
-    connections.count_unanswered()
+    connections.finish()
 
 
 def lines_of(one):
