@@ -20,7 +20,7 @@ DOCUMENTS = ["README.md"] + [os.path.join("docs", name) for name in ("WALK.md", 
 INDENT = "    "
 PROMPT = INDENT + "$ "
 SECONDS = 300
-LIBRARIES = ["/usr/bin/python3", "-c", "import dpkt, matplotlib, scipy, tqdm"]
+LIBRARIES = ["/usr/bin/python3", "-c", "import dpkt, h11, matplotlib, scipy, tqdm"]
 
 
 def commands_of(text):
@@ -84,7 +84,7 @@ def check(program, document):
 def main():
     program = program_of(__doc__)
     if not has_libraries():
-        sys.exit("needs the libraries of the tools: dpkt, matplotlib, scipy, tqdm")
+        sys.exit("needs the libraries of the tools: dpkt, h11, matplotlib, scipy, tqdm")
     all_wrong = 0
     for document in DOCUMENTS:
         count, wrong = check(program, document)
