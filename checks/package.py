@@ -273,6 +273,7 @@ SWEEP = "haboob-sweep --snapshot a --capture b --set policy.depth=1 --output c"
 LACKING = [
     ("python3-distributed", SWEEP + " --cluster tcp://127.0.0.1:9"),
     ("python3-tqdm", SWEEP),
+    ("python3-h11", "haboob-capture-from-pcap --port 80 --output a b"),
     ("python3-dpkt", "haboob-capture-from-pcap --port 80 --output a b"),
     ("python3-scipy", "haboob-calibrate --output a b"),
     ("python3-matplotlib", "haboob-timeline --output a b"),
