@@ -2,8 +2,8 @@
 """Ties the promises of docs/PROMISES.md to the wrong bodies that must be refused.
 
     checks/promises.py            checks that each wrong body names a promise, that those of must-fail/ fit their
-                                  sources, and that each test, script and case of a script is there that a row or a
-                                  line "By tests alone" names
+                                  sources, that each clause that a row names is one of its functions', and that each
+                                  test, script and case of a script is there that a row or a line "By tests alone" names
     checks/promises.py --print    prints each promise with its wrong bodies
 
 A mutant of checks/mutants/ names its promises by `promise`, an edit of must-fail/ by a line `promise: KEY`, or
@@ -36,6 +36,9 @@ CASES = [re.compile(r"`(?P<script>[\w/]+\.py)` \(%s\)" % SPANS),
          re.compile(SPANS + r"[\w ]* in `?(?P<script>checks/\w+\.py)`?"),
          re.compile(r"`(?P<script>[\w/]+\.py): (?P<cases>[^`]+)`")]
 ALONE = "By tests alone"
+CONTRACT = re.compile(r"^\s*(?:pub(?:\(\w+\))? )?(?:const |unsafe )*fn (\w+)|^\s*(?:ensures|requires)\*? (\w+) ",
+                      re.MULTILINE)
+BRACKETS = re.compile(r" \([^()]*\)")
 FUNCTION = re.compile(r"^\s*(?:pub )?fn (\w+)|^\s*(?:pub )?mod (\w+);", re.MULTILINE)
 
 
@@ -78,6 +81,27 @@ def named():
         table, rows = os.path.basename(path)[: -len(".toml")], tomllib.loads(read(path)).get("row", [])
         names.update([table], *(["%s::%s" % (table, row["name"]), row["name"]] for row in rows))
     return names
+
+
+def clauses():
+    """The names of the clauses of each function of the crates, whatever its type."""
+    found, name = {}, None
+    for path in glob.glob(os.path.join(TOP, "crates", "*", "src", "**", "*.rt"), recursive=True):
+        for function, clause in CONTRACT.findall(read(path)):
+            name = function or name
+            found.setdefault(name, set()).update([clause] if clause else [])
+    return found
+
+
+def absent_clauses(text, known):
+    """The clauses that a text names, as "`one`, `two`: `clause`", and that none of these functions has."""
+    for part in BRACKETS.sub("", text).split(";"):
+        named, _, names = part.partition(": ")
+        functions = [name.split("::")[-1] for name in SPAN.findall(named)]
+        if functions and names.startswith("`"):
+            here = set().union(*(known.get(name, ()) for name in functions))
+            yield from ("no clause %s of %s" % (name, named.strip()) for name in re.findall(r"`(\w+)`", names)
+                        if name not in here)
 
 
 def fits(path, crate):
@@ -133,9 +157,10 @@ def is_test_of_line(text, found):
 
 
 def absent(page):
-    """The tests, scripts and cases of scripts that the page names and that aren't there."""
-    tests = named()
+    """The clauses, tests, scripts and cases of scripts that the page names and that aren't there."""
+    tests, known = named(), clauses()
     for place, row in promises(page).items():
+        yield from ("%s/%s: %s" % (*place, what) for what in absent_clauses(row["clause"], known))
         told = REMARK.sub("", row["tests"])
         for test in filter(None, map(str.strip, re.split("[,;]", told))):
             found = TEST.match(test)

@@ -1,4 +1,5 @@
-"""Whether checks/promises.py can fail: names of tests, scripts and cases that aren't there are put into the page."""
+"""Whether checks/promises.py can fail: names of clauses, tests, scripts and cases that aren't there are put into the
+page."""
 import pathlib
 import sys
 
@@ -11,6 +12,9 @@ PAGE = promises.read(promises.PAGE)
 CASE = "`checks/program_settings.py` (`READ_BACK`)"
 # A text of the page, what stands in its place, and what is said of that.
 WRONG = [
+    ("`next_record`: `again`", "`next_record`: `agains`", "no clause agains of `next_record`"),
+    ("`ok` (`Explains`), `fault`, `reads`", "`ok` (`Explains`), `stops`, `reads`",
+     "no clause stops of `explain_replay`"),
     ("device_texts::decimals", "device_texts::decimal", "no test device_texts::decimal"),
     ("slim_devices::", "slim_device::", "no test slim_device::"),
     ("poor_devices::answer_to_a_reader_that_tells_nothing (its", "poor_devices::answer_to_nobody (its",
