@@ -6,10 +6,9 @@
     checks/mutants.py --check                 compares each record with the sources, in seconds, as the gate does
 
 Each function is checked against the contracts of those that it calls, so wrong bodies of different functions don't
-disturb each other: a pass puts as many as stand in different functions into one copy of the crate, checks these
-functions once, past open goals, over what the crate's own check kept, and judges each by the goals of its function.
-What changes something else than a function's body gets a pass of its own, over the whole crate, and so does what wasn't
-refused in a pass. The verdicts:
+disturb each other: a pass puts as many as stand in different functions into one copy of the crate, checks it once, past
+open goals, over what the crate's own check kept, and judges each by the goals of its function. What changes something
+else than a function's body gets a pass of its own, and so does what wasn't refused in a pass. The verdicts:
 
   values           values are known at which a goal is false
   goal             a goal can't be proved: what a function ensures, what a call requires, an invariant, a loop, an index
@@ -235,15 +234,6 @@ class Sites:
             texts[path] = texts[path].replace(old, new)
         return found
 
-    def asked(self, mutants):
-        """What the checker is asked for: the functions whose bodies mutants change; all of them (none named) where one
-        changes something else."""
-        where = [self.of(mutant) for mutant in mutants]
-        if not all(where) or not all(names for sites in where for *_, names in sites):
-            return []
-        names = {name for sites in where for *_, names in sites for name in names if "::fn::" not in name}
-        return sorted(name.split("::", 1)[1] for name in names)
-
 
 def grouped(mutants, sites):
     """Passes: up to MOST mutants in each, which stand in different functions; those that stand elsewhere alone."""
@@ -293,15 +283,14 @@ class Checker:
                     file.write(text)
         return room
 
-    def check(self, texts, only=(), keep=False):
-        """What the checker says of the crate with these texts, or of these functions alone: its exit status and its
-        lines. What it checked is kept for the passes that follow, if asked for."""
+    def check(self, texts, keep=False):
+        """What the checker says of the crate with these texts: its exit status and its lines. What it checked is kept
+        for the passes that follow, if asked for."""
         room = self.room(texts)
         try:
             with tempfile.TemporaryFile() as said:
-                words = [word for name in only for word in ("--only", name)]
-                ran = subprocess.Popen(["rt", "check", "--jobs", "1", "--allow-holes", *words],
-                                       stdin=subprocess.DEVNULL, stdout=said, stderr=subprocess.STDOUT,
+                ran = subprocess.Popen(["rt", "check", "--jobs", "1", "--allow-holes"], stdin=subprocess.DEVNULL,
+                                       stdout=said, stderr=subprocess.STDOUT,
                                        cwd=os.path.join(room, "crates", self.crate))
                 _, status, used = os.wait4(ran.pid, 0)
                 ran.returncode = os.waitstatus_to_exitcode(status)
@@ -316,8 +305,10 @@ class Checker:
     def keep(self, room):
         """Keeps what a check in a copy kept."""
         here = os.path.join(self.folder, "out", "incremental")
-        shutil.rmtree(here, ignore_errors=True)
-        shutil.move(os.path.join(room, "crates", self.crate, "out", "incremental"), here)
+        kept = os.path.join(room, "crates", self.crate, "out", "incremental")
+        if os.path.isdir(kept):
+            shutil.rmtree(here, ignore_errors=True)
+            shutil.move(kept, here)
 
 
 def linked(one, other):
@@ -403,7 +394,7 @@ class Trial:
                 if after is not None:
                     texts = after
                     kept.append(mutant)
-            status, lines = self.checker.check(texts, self.sites.asked(kept))
+            status, lines = self.checker.check(texts)
             self.passes += 1
             said = Said(lines)
             broken = kept if len(kept) == 1 else self.broken(kept, said)
