@@ -16,13 +16,13 @@ REFERENCE, CHOICES, DEVICES, STAGED = (
 SETTINGS, INPUT, MESSAGES = (
     "crates/reference/src/settings.rt", "crates/devices/src/device.rt", "crates/http_requests/src/messages.rt")
 PROOFS = "crates/replay/proofs/Lib.antt"
-ANSWERED = "    ensures ok { IfOk result\n        (Answers (terms_of F.files settings.now)"
+ANSWERED = "    ensures ok { IfOk result\n        (Answers F.files settings.now.served"
 SNAPSHOT, COSTS = "crates/paths/src/snapshot.rt", "crates/cost_model/specs/Reference.antt"
 # What is said, with N for each number.
 STALE = "docs/CLAIM.md: line N is not what the sources say; write it by checks/theorem.py --page"
 ROW = "crates/%s: N lines, and docs/THEOREM.md says N"
 TOTAL = "docs/THEOREM.md doesn't say: N lines for `ok` and its premises, N for all clauses of the call"
-VIEW = "      speed = s.speed;\n    } };\n\n    ghost invariant"
+VIEW = "        speed = s.speed;\n      };\n    } };\n\n    ghost invariant"
 BYTES = "bytes = ahead_unless i.source.over (prepend_known i.window i.source.bytes);"
 TICK = """\
 -- the tick that a message from there counts with: traffic that comes faster has its ticks divided so, rounded down
@@ -31,8 +31,8 @@ tick_in terms origin = origin.tick * 100 / terms.speed
 
 """
 LAST = """\
-abbrev pub handled : Terms → List Arrival → List Handled
-handled terms arrivals = handled_after terms [] arrivals
+abbrev pub handled : List File → Terms → List Arrival → List Handled
+handled files terms arrivals = handled_after files terms [] arrivals
 """
 UNLESS = "-- what is ahead of an input: none once it is over\nabbrev pub ahead_unless : Bool"
 RATE = "    pub rate: u64,\n}\n\n/// What became of an offered"
@@ -51,10 +51,10 @@ WRONG = [
     ("a trait's member", [(SNAPSHOT, "ghost files: { List File };", "ghost files: { List ℕ };")], [STALE]),
     ("another type of a field", [("crates/admission/src/control.rt", RATE, RATE.replace("u64", "u32"))], [STALE]),
     ("a premise", [(STAGED, "    requires snapshot",
-                    "    requires { settings.now.speed ≡ 100 }\n    requires snapshot")],
+                    "    requires { settings.now.served.speed ≡ 100 }\n    requires snapshot")],
      [ROW % "replay", TOTAL, STALE]),
     ("a comment", [(REFERENCE, "-- what requests come to\n", "-- what requests cost\n")], [STALE]),
-    ("a comment of a part", [(REFERENCE, "-- What an operator sets.\n", "-- What is set.\n")], [STALE]),
+    ("a comment of a part", [(REFERENCE, "-- What an operator sets: how","-- What is set: how")], [STALE]),
     ("a text in quotes with a comment's sign", [(REFERENCE, 'codes "stop " ++', 'codes "--" ++ rows_text ++'),
                                                 (REFERENCE, "{reply_text, ", "{reply_text, rows_text, ")],
      ["crates/responses/specs/Reference.antt: no definition rows_text", STALE]),
@@ -62,7 +62,7 @@ WRONG = [
     ("a definition in another file", [
         (REFERENCE, TICK, ""), (CHOICES, "-- how many steps a", TICK + "-- how many steps a"),
         (REFERENCE, "{Layout}\n", "{Layout}\nuse Rattle.reference.specs.Choices.{tick_in}\n"),
-        (CHOICES, "Reference.{Choice}", "Reference.{Choice, Terms}")],
+        (CHOICES, "Reference.{Choice, Terms}", "Reference.{Choice, Terms}\nuse Rattle.arrivals.specs.declared.incoming.Origin.{Origin}")],
      ["crates/reference/specs/Choices.antt: reached outside a Reference.antt: tick_in", STALE]),
     ("a definition in another file of its kind", [
         (REFERENCE, TICK, ""), (COSTS, "-- How long a virtual", TICK + "-- How long a virtual"),
@@ -73,8 +73,8 @@ WRONG = [
         (REFERENCE, "{Layout}\n", "{Layout}\nuse Rattle.replay.proofs.Lib.{tick_in}\n")],
      [PROOFS + ": reached outside a Reference.antt: tick_in", ROW % "replay", ROW % "reference", STALE]),
     ("a definition that is gone", [(REFERENCE, TICK, "")], [ROW % "reference", TOTAL, STALE]),
-    ("an import of what isn't there", [(STAGED, "{terms_of, Answers}", "{terms_off as terms_of, Answers}")],
-     ["crates/reference/specs/Reference.antt: no definition terms_off", ...]),
+    ("an import of what isn't there", [(STAGED, "Reference.{Answers}", "Reference.{Answered as Answers}")],
+     ["crates/reference/specs/Reference.antt: no definition Answered", ...]),
     ("a longer name that nothing cites", [(REFERENCE, LAST, LAST + "\n" + LAST.replace("handled ", "handled_all "))],
      ["crates/reference/specs/Reference.antt: not reached: handled_all"]),
     ("a shorter name that nothing cites", [(REFERENCE, LAST, LAST + "\n" + LAST.replace("handled ", "handle "))],
@@ -96,7 +96,7 @@ WRONG = [
     ("no clause", [(STAGED, ANSWERED, ANSWERED.replace("ok", "fine"))],
      ["crates/replay/src/staged.rt: no clause ok of pub fn staged_replay<"]),
     # The pages.
-    ("another text of the page", [(CLAIM, "terms_of files c = record {", "terms_of files d = record {")], [STALE]),
+    ("another text of the page", [(CLAIM, "handled files terms arrivals =", "handled terms files arrivals =")], [STALE]),
     ("another count of a row", [(THEOREM, "| `crates/arrivals` | ", "| `crates/arrivals` | 1")], [ROW % "arrivals"]),
     ("no row", [(THEOREM, "| `crates/arrivals` | ", "| arrivals | ")], ["crates/arrivals: not in docs/THEOREM.md"]),
     ("a row of another crate", [(THEOREM, "| `crates/arrivals` |", "| `crates/slim` | 1 | | |\n| `crates/arrivals` |")],
@@ -114,8 +114,7 @@ RIGHT = [
     ("a field that no view reads", [(SNAPSHOT, "use crate::name_index::NameIndex;\n", "")]),
     ("a derive", [(MESSAGES, "#[derive(Debug, PartialEq, Eq, Drop)]\npub enum Meaning", "pub enum Meaning")]),
     ("an import on several lines", [(REFERENCE, "Layouts.{Layout}", "Layouts.{\n  Layout,\n}")]),
-    ("another clause", [(STAGED, "reply_texts (terms_of F.files settings.now)",
-                         "reply_texts  (terms_of F.files settings.now)")]),
+    ("another clause", [(STAGED, "reply_texts F.files settings.now.served", "reply_texts  F.files settings.now.served")]),
     ("a body", [(STAGED, "let mut seats = Seats::new(alloc);", "let mut seats = None;")]),
 ]
 

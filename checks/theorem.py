@@ -19,8 +19,8 @@ import sys
 TOP = os.path.dirname(os.path.dirname(os.path.abspath(__file__)))
 CLAUSE_FILE, CLAUSE_FUNCTION = "crates/replay/src/staged.rt", "pub fn staged_replay<"
 THEOREM, CLAIM = os.path.join("docs", "THEOREM.md"), os.path.join("docs", "CLAIM.md")
-# What is reached outside a Reference.antt: how a contract sees a device, that it can fail, and the plan of a floor,
-# which `Choice` has and `terms_of` leaves out.
+# What is reached outside a Reference.antt: how a contract sees a device, that it can fail, and the plan of a floor, which
+# the settings' view has beside what is served.
 ELSEWHERE = {
     "crates/devices/specs/Devices.antt": {"Device", "ahead_unless", "CanFail"},
     "crates/stage_graph/specs/Layouts.antt": {"Layout"},

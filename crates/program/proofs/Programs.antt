@@ -11,7 +11,8 @@ use Rattle.captures.proofs.PassLemmas.{first_of_stop}
 use Rattle.reference.specs.Texts.{Texts, reply_texts}
 use Rattle.faults.specs.declared.fault.Fault.{Fault}
 use Rattle.faults.specs.declared.fault.Fault.TheVariants.{Snapshot, Replay, Memory}
-use Rattle.program.specs.Bundles.{AfterSnapshot, BundleSays, HoldsCapture, IsBundleFault, IsProgramFault, WritesAnswer, default_terms}
+use Rattle.settings.specs.SettingsTable.{default_choice}
+use Rattle.program.specs.Bundles.{AfterSnapshot, BundleSays, HoldsCapture, IsBundleFault, IsProgramFault, WritesAnswer}
 use Rattle.runs.specs.Ports.{Port, Reads, port}
 use Rattle.runs.proofs.Settling.{ok_weaker, fault_weaker}
 
@@ -39,7 +40,7 @@ after_weaker input P Q weaker b = record {
 reported_of_run : (input output : Port) (f : Fault) → IsBundleFault input output f → IsProgramFault input.old.bytes f
 reported_of_run input output (Snapshot f) says = says.0
 reported_of_run input output (Replay f) says =
-    after_weaker input.old.bytes _ _ (λ files rest leaves. first_of_replay (reply_texts (default_terms files)) rest input.new.bytes output.old.bytes output.new.bytes f leaves) says
+    after_weaker input.old.bytes _ _ (λ files rest leaves. first_of_replay (reply_texts files default_choice.served) rest input.new.bytes output.old.bytes output.new.bytes f leaves) says
 reported_of_run input output Memory says = tt
 reported_of_run input output other says = absurd says
 

@@ -9,7 +9,7 @@ use Rattle.paths.specs.SnapshotFaults.{ReadsWhole}
 use Rattle.paths.specs.Snapshots.{IsSnapshot}
 use Rattle.reference.specs.declared.summary.Outcome.{Outcome}
 use Rattle.captures.specs.declared.pass_fault.PassFault.{PassFault}
-use Rattle.reference.specs.Reference.{Choice, Terms, terms_of}
+use Rattle.reference.specs.Reference.{Choice, Terms}
 use Rattle.reference.specs.Outcomes.{Leaves}
 use Rattle.faults.specs.declared.fault.Fault.{Fault}
 use Rattle.faults.specs.declared.fault.Fault.TheVariants.{Snapshot, Replay, Write, Memory}
@@ -24,8 +24,8 @@ use Rattle.runs.proofs.Settling.{ok_weaker, fault_weaker}
 
 -- a replay after a whole snapshot came to no end
 pub stops_after : (wanted : Wanted) (choice : Choice) (snapshot read capture ahead : Option (List ℕ)) (files : List File) (old new : Option (List ℕ)) (f : PassFault) → ReadsWhole snapshot read files → IsSnapshot files
-    → Leaves (wanted_of wanted (terms_of files choice)) capture ahead old new f
-    → OfSnapshot snapshot (λ its. Leaves (wanted_of wanted (terms_of its choice)) capture ahead old new f)
+    → Leaves (wanted_of wanted files choice.served) capture ahead old new f
+    → OfSnapshot snapshot (λ its. Leaves (wanted_of wanted its choice.served) capture ahead old new f)
 stops_after wanted choice snapshot read capture ahead files old new f whole rules leaves = record {
   files = files;
   rules = rules;
@@ -46,7 +46,7 @@ files_weaker snapshot P Q weaker its = record {
 reported_of_replay : (wanted : Wanted) (choice : Choice) (at : Ports) (f : Fault) → IsReplayFault wanted choice at f → IsFilesFault at.snapshot.old.bytes at.capture.old.bytes f
 reported_of_replay wanted choice at (Snapshot f) says = says.0
 reported_of_replay wanted choice at (Replay f) says =
-    files_weaker at.snapshot.old.bytes _ _ (λ files leaves. first_of_replay (wanted_of wanted (terms_of files choice)) at.capture.old.bytes at.capture.new.bytes at.written.old.bytes at.written.new.bytes f leaves) says.0
+    files_weaker at.snapshot.old.bytes _ _ (λ files leaves. first_of_replay (wanted_of wanted files choice.served) at.capture.old.bytes at.capture.new.bytes at.written.old.bytes at.written.new.bytes f leaves) says.0
 reported_of_replay wanted choice at (Write places.Report) says = tt
 reported_of_replay wanted choice at Memory says = tt
 reported_of_replay wanted choice at other says = absurd says
@@ -58,14 +58,14 @@ files_fault wanted choice snapshot capture written report ran says =
     fault_weaker _ _ ran (reported_of_replay wanted choice (ports (fresh snapshot) says.0 (fresh capture) says.1 written.old written.new report.old report.new)) says.2.1
 
 -- where it came to its end, the capture that it answered is a capture's text
-is_text : (wanted : Wanted) (terms : Terms) (capture : Option (List ℕ)) (written : Port) (outcome : Outcome) → HasWritten wanted terms capture written outcome → HoldsCapture terms.files capture
-is_text (wants.Replies engine) terms capture written outcome h known = (let c = h.read.capture in (c.version, c.start, c.records, c.text known))
-is_text wants.Rows terms capture written outcome h known = (let c = h.read.capture in (c.version, c.start, c.records, c.text known))
+is_text : (wanted : Wanted) (files : List File) (terms : Terms) (capture : Option (List ℕ)) (written : Port) (outcome : Outcome) → HasWritten wanted files terms capture written outcome → HoldsCapture files capture
+is_text (wants.Replies engine) files terms capture written outcome h known = (let c = h.read.capture in (c.version, c.start, c.records, c.text known))
+is_text wants.Rows files terms capture written outcome h known = (let c = h.read.capture in (c.version, c.start, c.records, c.text known))
 
 pub files_ok : (wanted : Wanted) (choice : Choice) (snapshot capture : Option (List ℕ)) (written report : Port) (ran : Result Unit Fault) → FilesSays wanted choice snapshot capture written report ran
     → OnOk ran (OfSnapshot snapshot (λ files. HoldsCapture files capture))
 files_ok wanted choice snapshot capture written report ran says =
-    ok_weaker _ _ ran (files_weaker snapshot _ (λ files. HoldsCapture files capture) (λ files answer known. is_text wanted (terms_of files choice) capture written answer.outcome answer.answer known)) says.2.0
+    ok_weaker _ _ ran (files_weaker snapshot _ (λ files. HoldsCapture files capture) (λ files answer known. is_text wanted files choice.served capture written answer.outcome answer.answer known)) says.2.0
 
 -- a device that is blamed exactly is, whatever may go untold
 pub exactly : {X E : Type 0} (r : Result X E) (blamed : E → ℕ) (untold : E → Bool) (old new : ℕ) → CountsBy blamed old new r → BlamesReader blamed untold old new r

@@ -6,7 +6,7 @@ use Rattle.paths.specs.Snapshots.{IsSnapshot, BeginsWithSnapshot}
 use Rattle.paths.specs.SnapshotFaults.{IsFrontFault, IsForeseen}
 use Rattle.captures.specs.CaptureFaults.{is_unforeseen_kind, IsFirstFault}
 use Rattle.reference.specs.declared.summary.Outcome.{Outcome}
-use Rattle.reference.specs.Reference.{Terms, terms_of, Answers}
+use Rattle.reference.specs.Reference.{Answers}
 use Rattle.reference.specs.Outcomes.{IfCapture, Leaves}
 use Rattle.reference.specs.Texts.{reply_texts}
 use Rattle.settings.specs.SettingsTable.{default_choice}
@@ -27,11 +27,8 @@ pub record AfterSnapshot (input : Option (List ℕ)) (P : List File → Option (
   pub after : P files rest
 
 -- the answer of the reference server with the default settings, to this capture, was written
-abbrev pub default_terms : List File → Terms
-default_terms files = terms_of files default_choice
-
 abbrev pub WritesAnswer : Option (List ℕ) → Option (List ℕ) → List File → Option (List ℕ) → Type 0
-WritesAnswer old new files capture = (outcome : Outcome) × Answers (default_terms files) capture old new outcome
+WritesAnswer old new files capture = (outcome : Outcome) × Answers files default_choice.served capture old new outcome
 
 -- What a fault of the run says of the input and of the output. One of the snapshot is its first and nothing was
 -- written; one of the replay comes after a whole snapshot, and says what it says of the rest; memory may run out
@@ -39,7 +36,7 @@ WritesAnswer old new files capture = (outcome : Outcome) × Answers (default_ter
 abbrev pub IsBundleFault : Port → Port → Fault → Type 0
 IsBundleFault input output (Snapshot f) = IsForeseen IsFrontFault input.old.bytes f × (output.new ≡ output.old)
 IsBundleFault input output (Replay f) = AfterSnapshot input.old.bytes (λ files capture.
-    Leaves (reply_texts (default_terms files)) capture input.new.bytes output.old.bytes output.new.bytes f)
+    Leaves (reply_texts files default_choice.served) capture input.new.bytes output.old.bytes output.new.bytes f)
 IsBundleFault input output Memory = output.new ≡ output.old
 IsBundleFault input output other = ⊥
 

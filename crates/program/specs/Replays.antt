@@ -8,7 +8,7 @@ use Rattle.paths.specs.SnapshotFaults.{IsFirstFault, IsForeseen, failures_of}
 use Rattle.captures.specs.CaptureFaults.{is_unforeseen_kind}
 use Rattle.captures.specs.CaptureFaults as captures
 use Rattle.reference.specs.declared.summary.Outcome.{Outcome}
-use Rattle.reference.specs.Reference.{Answers, Choice, Terms, terms_of}
+use Rattle.reference.specs.Reference.{Answers, Choice, Terms}
 use Rattle.reference.specs.Explaining.{Explains, row_texts}
 use Rattle.reference.specs.Texts.{Texts, reply_texts}
 use Rattle.devices.specs.Reference.{WhereKnown}
@@ -34,23 +34,23 @@ pub record OfSnapshot (snapshot : Option (List ℕ)) (P : List File → Type 0) 
   pub holds : P files
 
 -- the texts that are wanted
-abbrev pub wanted_of : Wanted → Terms → Texts
-wanted_of (wants.Replies engine) terms = reply_texts terms
-wanted_of wants.Rows terms = row_texts terms
+abbrev pub wanted_of : Wanted → List File → Terms → Texts
+wanted_of (wants.Replies engine) files terms = reply_texts files terms
+wanted_of wants.Rows files terms = row_texts files terms
 
 -- The answer of the reference server to the capture was written, whatever the engine, or the table of its decisions;
 -- and this is the outcome.
-abbrev pub HasWritten : Wanted → Terms → Option (List ℕ) → Port → Outcome → Type 0
-HasWritten (wants.Replies engine) terms capture written outcome =
-    Answers terms capture written.old.bytes written.new.bytes outcome
-HasWritten wants.Rows terms capture written outcome =
-    Explains terms capture written.old.bytes written.new.bytes outcome
+abbrev pub HasWritten : Wanted → List File → Terms → Option (List ℕ) → Port → Outcome → Type 0
+HasWritten (wants.Replies engine) files terms capture written outcome =
+    Answers files terms capture written.old.bytes written.new.bytes outcome
+HasWritten wants.Rows files terms capture written outcome =
+    Explains files terms capture written.old.bytes written.new.bytes outcome
 
 -- what is wanted of the capture was written, and P holds of its outcome
-pub record AnswersAnd (wanted : Wanted) (terms : Terms) (capture : Option (List ℕ)) (written : Port)
+pub record AnswersAnd (wanted : Wanted) (files : List File) (terms : Terms) (capture : Option (List ℕ)) (written : Port)
     (P : Outcome → Type 0) : Type 0 where
   pub outcome : Outcome
-  pub answer : HasWritten wanted terms capture written outcome
+  pub answer : HasWritten wanted files terms capture written outcome
   pub holds : P outcome
 
 -- the devices of a run: of its inputs, of what is wanted of the messages, and of the report
@@ -72,7 +72,7 @@ ports snapshot snapshot_new capture capture_new written written_new report repor
 -- what is wanted was written, and P holds of its outcome
 abbrev pub WritesWanted : Wanted → Choice → Ports → (Outcome → Type 0) → Type 0
 WritesWanted wanted choice at P = OfSnapshot at.snapshot.old.bytes (λ files.
-    AnswersAnd wanted (terms_of files choice) at.capture.old.bytes at.written P)
+    AnswersAnd wanted files choice.served at.capture.old.bytes at.written P)
 
 -- and the whole report of it
 abbrev pub Replays : Wanted → Choice → Ports → Type 0
@@ -86,7 +86,7 @@ abbrev pub IsReplayFault : Wanted → Choice → Ports → Fault → Type 0
 IsReplayFault wanted choice at (Snapshot f) = IsForeseen IsFirstFault at.snapshot.old.bytes f
     × (at.written.new ≡ at.written.old) × (at.report.new ≡ at.report.old)
 IsReplayFault wanted choice at (Replay f) =
-    OfSnapshot at.snapshot.old.bytes (λ files. Leaves (wanted_of wanted (terms_of files choice))
+    OfSnapshot at.snapshot.old.bytes (λ files. Leaves (wanted_of wanted files choice.served)
     at.capture.old.bytes at.capture.new.bytes at.written.old.bytes at.written.new.bytes f)
     × (at.report.new ≡ at.report.old)
 IsReplayFault wanted choice at (Write Report) = WritesWanted wanted choice at (λ outcome.

@@ -2,7 +2,6 @@
 
 ghost use Rattle.std.specs.Prelude.{◌≡◌, ◌-◌, ◌<◌, ◌^◌, IfOk, IfErr};
 ghost use Rattle.devices.specs.Devices.{CanFail, CountsBy};
-ghost use Rattle.reference.specs.Reference.{terms_of};
 ghost use Rattle.reference.specs.Outcomes.{Leaves};
 ghost use Rattle.captures.specs.Passes as passes;
 ghost use Rattle.runs.specs.Ports.{port};
@@ -39,13 +38,13 @@ pub(crate) fn run_wanted<F: Tree + Send + Sync, T: Threads + Wait + Sync, C: Rea
 ) -> Result<Outcome, ReplayFault>
     requires files { files.now ≡ F.files }
     requires devices { CanFail capture.old × CanFail written.old }
-    ensures fault { IfErr result (Leaves (wanted_of wanted (terms_of F.files settings.now))
+    ensures fault { IfErr result (Leaves (wanted_of wanted F.files settings.now.served)
         capture.old.bytes capture.new.bytes written.old.bytes written.new.bytes) }
     ensures reads { passes.BlamesReader passes.reader_failures (untold_by wanted)
         capture.old.failures capture.new.failures result }
     ensures writes { CountsBy passes.writer_failures
         written.old.failures written.new.failures result }
-    ensures ok { IfOk result (HasWritten wanted (terms_of F.files settings.now)
+    ensures ok { IfOk result (HasWritten wanted F.files settings.now.served
         capture.old.bytes (port written.old written.new)) }
 {
     match wanted {

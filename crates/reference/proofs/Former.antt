@@ -36,27 +36,30 @@ use Rattle.reference.specs.declared.summary.Summary.{Summary}
 use Rattle.arrivals.specs.Reference.{Arrival, text_of, messages_of, ArrivesWith, Precedes, AreArrivals}
 use Rattle.responses.specs.Reference.{statuses}
 use Rattle.reference.proofs.OneAnswer.{same_outcome}
-use Rattle.reference.specs.Reference.{station_for, outcome_of, Terms, given, Handled, offer_at, offers_of, rejects, is_turned_away, handled_next, handled_after, handled, reply_of, replies_of, replies_text, status_for, counts_of, bypassed_of, breaks_a_rule, rejected_of, samples_of, tally_of, tallies_of, summary_of, Answers}
+use Rattle.reference.proofs.InOrder.{outcome_is, answered}
+use Rattle.reference.specs.Reference.{station_for, Terms, given, Handled, offer_at, offers_of, rejects, is_turned_away, handled_next, handled_after, handled, reply_of, replies_of, replies_text, status_for, counts_of, bypassed_of, breaks_a_rule, rejected_of, samples_of, tally_of, tallies_of, summary_of, Answers}
+use Rattle.reference.specs.Outcomes.{outcome_of}
 use Rattle.reference.specs.Former.{FormerTerms, ArrivedWith, WereArrivals, former_tick, former_offer, former_offers, formerly_rejects, was_turned_away, handled_next_alone, handled_after_alone, former_handled, formerly_given, former_reply, former_replies, former_status, former_counts, former_samples, former_controls, FormerOutcome, former_outcome}
 use Rattle.reference.specs.Laws.{former_terms, no_requests, all_requests, in_tiers, told_in, SameInVersionOne, FormerAnswersHold, UpgradeKeepsAnswers, UpgradeKeepsReplies}
+use Rattle.paths.specs.declared.file.File.{File}
 
 -- ---- offers of tier 0
 
 abbrev AreLowest : List Arrival → Type 0
 AreLowest arrivals = All (λ a. a.origin.tier ≡ 0) arrivals
 
-offer_same : (terms : Terms) (origin : Origin) (what : Meaning) → origin.tier ≡ 0
-    → offer_at terms origin what ≡ former_offer (former_terms terms) (former_tick (former_terms terms) origin) what
-offer_same terms origin (Request method target version closing since) at = rw at refl
-offer_same terms origin (Bad fault) at = refl
+offer_same : (files : List File) (terms : Terms) (origin : Origin) (what : Meaning) → origin.tier ≡ 0
+    → offer_at files terms origin what ≡ former_offer (former_terms files terms) (former_tick (former_terms files terms) origin) what
+offer_same files terms origin (Request method target version closing since) at = rw at refl
+offer_same files terms origin (Bad fault) at = refl
 
-offers_same : (terms : Terms) (arrivals : List Arrival) → AreLowest arrivals
-    → offers_of terms arrivals ≡ former_offers (former_terms terms) arrivals
+offers_same : (files : List File) (terms : Terms) (arrivals : List Arrival) → AreLowest arrivals
+    → offers_of files terms arrivals ≡ former_offers (former_terms files terms) arrivals
 unfolding offers_of former_offers
-offers_same terms [] lowest = refl
-offers_same terms (a ∷ arrivals) lowest =
-    let first = offer_same terms a.origin a.message.what (All-head (λ a. a.origin.tier ≡ 0) a arrivals lowest) in
-    let rest = offers_same terms arrivals (All-tail (λ a. a.origin.tier ≡ 0) a arrivals lowest) in
+offers_same files terms [] lowest = refl
+offers_same files terms (a ∷ arrivals) lowest =
+    let first = offer_same files terms a.origin a.message.what (All-head (λ a. a.origin.tier ≡ 0) a arrivals lowest) in
+    let rest = offers_same files terms arrivals (All-tail (λ a. a.origin.tier ≡ 0) a arrivals lowest) in
     (λ i. first i ++ rest i)
 
 former_lowest : (terms : FormerTerms) (arrivals : List Arrival) → AreOfTier 0 (former_offers terms arrivals)
@@ -78,69 +81,69 @@ rejects_same station offers offer of at =
     let alone = one_tier_as_before station offers of in
     rw (at, alone.1, alone.0) refl
 
-turned_same : (terms : Terms) (earlier : List Arrival) (a : Arrival) → AreLowest earlier → a.origin.tier ≡ 0
-    → is_turned_away terms earlier a ≡ was_turned_away (former_terms terms) earlier a
-turned_same terms earlier a lowest at =
-    (λ i. list_any (rejects (station_for terms) (offers_same terms earlier lowest i))
-    (offer_same terms a.origin a.message.what at i)) ∙ go a.message.what
+turned_same : (files : List File) (terms : Terms) (earlier : List Arrival) (a : Arrival) → AreLowest earlier → a.origin.tier ≡ 0
+    → is_turned_away files terms earlier a ≡ was_turned_away (former_terms files terms) earlier a
+turned_same files terms earlier a lowest at =
+    (λ i. list_any (rejects (station_for terms) (offers_same files terms earlier lowest i))
+    (offer_same files terms a.origin a.message.what at i)) ∙ go a.message.what
   where
     before : List Offer
-    before = former_offers (former_terms terms) earlier
+    before = former_offers (former_terms files terms) earlier
 
     go : (what : Meaning)
-        → list_any (rejects (station_for terms) before) (former_offer (former_terms terms) (former_tick (former_terms terms) a.origin) what)
+        → list_any (rejects (station_for terms) before) (former_offer (former_terms files terms) (former_tick (former_terms files terms) a.origin) what)
         ≡ list_any (formerly_rejects terms.tariff.costs.servers (rules_of (station_for terms) 0) before)
-        (former_offer (former_terms terms) (former_tick (former_terms terms) a.origin) what)
+        (former_offer (former_terms files terms) (former_tick (former_terms files terms) a.origin) what)
     go (Request method target version closing since) =
         ap (λ (away : Bool). away || false)
-        (rejects_same (station_for terms) before _ (former_lowest (former_terms terms) earlier) refl)
+        (rejects_same (station_for terms) before _ (former_lowest (former_terms files terms) earlier) refl)
     go (Bad fault) = refl
 
-handled_same : (terms : Terms) (earlier arrivals : List Arrival) → AreLowest earlier → AreLowest arrivals
-    → handled_after terms earlier arrivals ≡ handled_after_alone (former_terms terms) earlier arrivals
+handled_same : (files : List File) (terms : Terms) (earlier arrivals : List Arrival) → AreLowest earlier → AreLowest arrivals
+    → handled_after files terms earlier arrivals ≡ handled_after_alone (former_terms files terms) earlier arrivals
 unfolding handled_after handled_after_alone
-handled_same terms earlier [] before lowest = refl
-handled_same terms earlier (a ∷ arrivals) before lowest =
+handled_same files terms earlier [] before lowest = refl
+handled_same files terms earlier (a ∷ arrivals) before lowest =
     let at = All-head (λ a. a.origin.tier ≡ 0) a arrivals lowest in
-    let away = turned_same terms earlier a before at in
-    let first : handled_next terms earlier a ≡ handled_next_alone (former_terms terms) earlier a = rw away refl in
-    let rest = handled_same terms (earlier ++ a ∷ []) arrivals (All-push (λ a. a.origin.tier ≡ 0) earlier a before at)
+    let away = turned_same files terms earlier a before at in
+    let first : handled_next files terms earlier a ≡ handled_next_alone (former_terms files terms) earlier a = rw away refl in
+    let rest = handled_same files terms (earlier ++ a ∷ []) arrivals (All-push (λ a. a.origin.tier ≡ 0) earlier a before at)
     (All-tail (λ a. a.origin.tier ≡ 0) a arrivals lowest) in
     (λ i. first i ∷ rest i)
 
-handled_alone : (terms : Terms) (arrivals : List Arrival) → AreLowest arrivals
-    → handled terms arrivals ≡ former_handled (former_terms terms) arrivals
-handled_alone terms arrivals lowest = handled_same terms [] arrivals (All-nil (λ a. a.origin.tier ≡ 0)) lowest
+handled_alone : (files : List File) (terms : Terms) (arrivals : List Arrival) → AreLowest arrivals
+    → handled files terms arrivals ≡ former_handled (former_terms files terms) arrivals
+handled_alone files terms arrivals lowest = handled_same files terms [] arrivals (All-nil (λ a. a.origin.tier ≡ 0)) lowest
 
 -- ---- replies
 
-given_same : {X : Type 0} (terms : Terms) (away : Bool) (what : Meaning) → given {X = X} terms away what
-    ≡ formerly_given (former_terms terms) away what
-given_same terms true what = refl
-given_same terms false what = refl
+given_same : {X : Type 0} (files : List File) (terms : Terms) (away : Bool) (what : Meaning) → given {X = X} files terms away what
+    ≡ formerly_given (former_terms files terms) away what
+given_same files terms true what = refl
+given_same files terms false what = refl
 
-reply_same : (terms : Terms) (start : ℕ) (h : Handled)
-    → reply_of terms start h ≡ former_reply (former_terms terms) start h
+reply_same : (files : List File) (terms : Terms) (start : ℕ) (h : Handled)
+    → reply_of files terms start h ≡ former_reply (former_terms files terms) start h
 unfolding reply_of former_reply
-reply_same terms start h = rw (given_same {X = Unit {0}} terms h.turned_away h.arrival.message.what) refl
+reply_same files terms start h = rw (given_same {X = Unit {0}} files terms h.turned_away h.arrival.message.what) refl
 
-replies_same : (terms : Terms) (start : ℕ) (messages : List Handled)
-    → replies_of terms start messages ≡ former_replies (former_terms terms) start messages
-replies_same terms start [] = refl
-replies_same terms start (h ∷ messages) = (λ i. reply_same terms start h i ∷ replies_same terms start messages i)
+replies_same : (files : List File) (terms : Terms) (start : ℕ) (messages : List Handled)
+    → replies_of files terms start messages ≡ former_replies (former_terms files terms) start messages
+replies_same files terms start [] = refl
+replies_same files terms start (h ∷ messages) = (λ i. reply_same files terms start h i ∷ replies_same files terms start messages i)
 
-status_same : (terms : Terms) (h : Handled) → status_for terms h ≡ former_status (former_terms terms) h
-status_same terms h = rw (given_same {X = Unit {0}} terms h.turned_away h.arrival.message.what) refl
+status_same : (files : List File) (terms : Terms) (h : Handled) → status_for files terms h ≡ former_status (former_terms files terms) h
+status_same files terms h = rw (given_same {X = Unit {0}} files terms h.turned_away h.arrival.message.what) refl
 
-count_same : (terms : Terms) (messages : List Handled) (status : ℕ)
-    → count_by (λ h. status_for terms h == status) messages
-    ≡ count_by (λ h. former_status (former_terms terms) h == status) messages
-count_same terms messages status = (λ i. count_by (λ h. status_same terms h i == status) messages)
+count_same : (files : List File) (terms : Terms) (messages : List Handled) (status : ℕ)
+    → count_by (λ h. status_for files terms h == status) messages
+    ≡ count_by (λ h. former_status (former_terms files terms) h == status) messages
+count_same files terms messages status = (λ i. count_by (λ h. status_same files terms h i == status) messages)
 
-counts_same : (terms : Terms) (messages : List Handled)
-    → counts_of terms messages ≡ former_counts (former_terms terms) messages
-counts_same terms messages =
-    (λ i. record { by_status = map (λ status. count_same terms messages status i) statuses })
+counts_same : (files : List File) (terms : Terms) (messages : List Handled)
+    → counts_of files terms messages ≡ former_counts (former_terms files terms) messages
+counts_same files terms messages =
+    (λ i. record { by_status = map (λ status. count_same files terms messages status i) statuses })
 
 -- ---- how many were turned away
 
@@ -228,15 +231,15 @@ samples_same : (station : Station) (offers : List Offer) → AreOfTier 0 offers
 unfolding samples_of former_samples
 samples_same station offers of = rw ((one_tier_as_before station offers of).0) refl
 
-first_tally : (terms : Terms) (arrivals : List Arrival)
-    → tally_of (station_for terms) (former_offers (former_terms terms) arrivals) 0
-    ≡ all_requests (former_outcome (former_terms terms) arrivals)
+first_tally : (files : List File) (terms : Terms) (arrivals : List Arrival)
+    → tally_of (station_for terms) (former_offers (former_terms files terms) arrivals) 0
+    ≡ all_requests (former_outcome (former_terms files terms) arrivals)
 unfolding tally_of former_samples former_controls
-first_tally terms arrivals =
-    let offers = former_offers (former_terms terms) arrivals in
-    let alone = one_tier_as_before (station_for terms) offers (former_lowest (former_terms terms) arrivals) in
+first_tally files terms arrivals =
+    let offers = former_offers (former_terms files terms) arrivals in
+    let alone = one_tier_as_before (station_for terms) offers (former_lowest (former_terms files terms) arrivals) in
     let count = length-map (served (decided_alone terms.tariff.costs.servers (rules_of (station_for terms) 0) offers)) (λ r. r.finish + r.offer.delay - r.offer.tick) in
-    rw (alone.1, turned_is (former_terms terms) arrivals, count) refl
+    rw (alone.1, turned_is (former_terms files terms) arrivals, count) refl
 
 others_none : (servers : ℕ) (rules : PolicyNumbers) (tier : ℕ) (past : List Decided) (offers : List Offer) → (0 ≡ tier → ⊥)
     → AreOfTier 0 offers → of_tier tier past ≡ []
@@ -261,24 +264,24 @@ other_tally station offers tier apart of =
 
 -- ---- the outcome
 
-text_same : (terms : Terms) (start : ℕ) (arrivals : List Arrival) → AreLowest arrivals
-    → replies_of terms start (handled terms arrivals)
-    ≡ former_replies (former_terms terms) start (former_handled (former_terms terms) arrivals)
-text_same terms start arrivals lowest =
-    ap (λ hs. replies_of terms start hs) (handled_alone terms arrivals lowest)
-    ∙ replies_same terms start (former_handled (former_terms terms) arrivals)
+text_same : (files : List File) (terms : Terms) (start : ℕ) (arrivals : List Arrival) → AreLowest arrivals
+    → replies_of files terms start (handled files terms arrivals)
+    ≡ former_replies (former_terms files terms) start (former_handled (former_terms files terms) arrivals)
+text_same files terms start arrivals lowest =
+    ap (λ hs. replies_of files terms start hs) (handled_alone files terms arrivals lowest)
+    ∙ replies_same files terms start (former_handled (former_terms files terms) arrivals)
 
-rejected_same : (terms : Terms) (arrivals : List Arrival) → AreLowest arrivals
-    → rejected_of (handled terms arrivals) ≡ (former_outcome (former_terms terms) arrivals).rejected
-rejected_same terms arrivals lowest = ap rejected_of (handled_alone terms arrivals lowest)
+rejected_same : (files : List File) (terms : Terms) (arrivals : List Arrival) → AreLowest arrivals
+    → rejected_of (handled files terms arrivals) ≡ (former_outcome (former_terms files terms) arrivals).rejected
+rejected_same files terms arrivals lowest = ap rejected_of (handled_alone files terms arrivals lowest)
 
-tallies_same : (terms : Terms) (arrivals : List Arrival)
-    → tallies_of (station_for terms) (former_offers (former_terms terms) arrivals)
-    ≡ all_requests (former_outcome (former_terms terms) arrivals) ∷ no_requests ∷ no_requests ∷ no_requests ∷ []
-tallies_same terms arrivals =
-    let offers = former_offers (former_terms terms) arrivals in
-    let of = former_lowest (former_terms terms) arrivals in
-    let first = first_tally terms arrivals in
+tallies_same : (files : List File) (terms : Terms) (arrivals : List Arrival)
+    → tallies_of (station_for terms) (former_offers (former_terms files terms) arrivals)
+    ≡ all_requests (former_outcome (former_terms files terms) arrivals) ∷ no_requests ∷ no_requests ∷ no_requests ∷ []
+tallies_same files terms arrivals =
+    let offers = former_offers (former_terms files terms) arrivals in
+    let of = former_lowest (former_terms files terms) arrivals in
+    let first = first_tally files terms arrivals in
     let second = other_tally (station_for terms) offers 1 (λ e. omega (arith, e)) of in
     let third = other_tally (station_for terms) offers 2 (λ e. omega (arith, e)) of in
     let fourth = other_tally (station_for terms) offers 3 (λ e. omega (arith, e)) of in
@@ -288,17 +291,17 @@ summary_with : Counts → ℕ → List ℕ → List Tally → Summary
 summary_with counts bypassed samples tiers =
     record { counts = counts; bypassed = bypassed; samples = samples; tiers = tiers }
 
-summary_same : (terms : Terms) (arrivals : List Arrival) → AreLowest arrivals
-    → summary_of terms arrivals ≡ (in_tiers (former_outcome (former_terms terms) arrivals)).summary
+summary_same : (files : List File) (terms : Terms) (arrivals : List Arrival) → AreLowest arrivals
+    → summary_of files terms arrivals ≡ (in_tiers (former_outcome (former_terms files terms) arrivals)).summary
 unfolding summary_with
-summary_same terms arrivals lowest =
-    let offers = offers_same terms arrivals lowest in
-    let counts = ap (counts_of terms) (handled_alone terms arrivals lowest)
-    ∙ counts_same terms (former_handled (former_terms terms) arrivals) in
+summary_same files terms arrivals lowest =
+    let offers = offers_same files terms arrivals lowest in
+    let counts = ap (counts_of files terms) (handled_alone files terms arrivals lowest)
+    ∙ counts_same files terms (former_handled (former_terms files terms) arrivals) in
     let samples = ap (samples_of (station_for terms)) offers
-    ∙ samples_same (station_for terms) (former_offers (former_terms terms) arrivals)
-    (former_lowest (former_terms terms) arrivals) in
-    let tallies = ap (tallies_of (station_for terms)) offers ∙ tallies_same terms arrivals in
+    ∙ samples_same (station_for terms) (former_offers (former_terms files terms) arrivals)
+    (former_lowest (former_terms files terms) arrivals) in
+    let tallies = ap (tallies_of (station_for terms)) offers ∙ tallies_same files terms arrivals in
     (λ i. summary_with (counts i) (bypassed_of arrivals) (samples i) (tallies i))
 
 -- ---- the law of version 1
@@ -332,7 +335,7 @@ were_arrivals records arrivals each arrived = record {
 }
 
 pub same_in_version_one : SameInVersionOne
-same_in_version_one terms input old new outcome a one =
+same_in_version_one files terms input old new outcome a one =
     let c = a.read.capture in
     let rules : IsCapture One c.start c.records = subst (λ v. IsCapture v c.start c.records) one c.rules in
     let are : AreArrivals c.records a.read.arrivals =
@@ -340,7 +343,7 @@ same_in_version_one terms input old new outcome a one =
     let few = a.read.few in
     let most = ap (λ v. (format_of v).max_messages) one in
     let lowest : AreLowest a.read.arrivals = lowest_of c.records a.read.arrivals rules.each are in
-    let former : FormerOutcome = former_outcome (former_terms terms) a.read.arrivals in (
+    let former : FormerOutcome = former_outcome (former_terms files terms) a.read.arrivals in (
       former,
       record {
         start = c.start;
@@ -351,75 +354,74 @@ same_in_version_one terms input old new outcome a one =
         arrived = were_arrivals c.records a.read.arrivals rules.each are;
         few = omega (arith, few, most);
         written =
-            subst (λ rs. Appends old new (replies_text rs)) (text_same terms c.start a.read.arrivals lowest) a.written;
+            subst (λ rs. Appends old new (replies_text rs)) (text_same files terms c.start a.read.arrivals lowest) a.written_exactly;
         outcome = refl;
       },
-      a.outcome_is ∙ same_outcome (outcome_of c.version terms a.read.arrivals) (in_tiers former) one
-          (rejected_same terms a.read.arrivals lowest) (summary_same terms a.read.arrivals lowest),
+      outcome_is a ∙ same_outcome (outcome_of c.version files terms a.read.arrivals) (in_tiers former) one
+          (rejected_same files terms a.read.arrivals lowest) (summary_same files terms a.read.arrivals lowest),
     )
 
 -- ---- the law of the upgrade
 
-text_shared : (terms other : Terms) (start : ℕ) (arrivals : List Arrival) → AreLowest arrivals
-    → former_terms terms ≡ former_terms other
-    → replies_of terms start (handled terms arrivals) ≡ replies_of other start (handled other arrivals)
-text_shared terms other start arrivals lowest same =
-    text_same terms start arrivals lowest
+text_shared : (files : List File) (terms : Terms) (others : List File) (other : Terms) (start : ℕ) (arrivals : List Arrival) → AreLowest arrivals
+    → former_terms files terms ≡ former_terms others other
+    → replies_of files terms start (handled files terms arrivals) ≡ replies_of others other start (handled others other arrivals)
+text_shared files terms others other start arrivals lowest same =
+    text_same files terms start arrivals lowest
     ∙ ap (λ (t : FormerTerms). former_replies t start (former_handled t arrivals)) same
-    ∙ sym (text_same other start arrivals lowest)
+    ∙ sym (text_same others other start arrivals lowest)
 
-rejected_shared : (terms other : Terms) (arrivals : List Arrival) → AreLowest arrivals
-    → former_terms terms ≡ former_terms other
-    → rejected_of (handled terms arrivals) ≡ rejected_of (handled other arrivals)
-rejected_shared terms other arrivals lowest same =
-    rejected_same terms arrivals lowest
+rejected_shared : (files : List File) (terms : Terms) (others : List File) (other : Terms) (arrivals : List Arrival) → AreLowest arrivals
+    → former_terms files terms ≡ former_terms others other
+    → rejected_of (handled files terms arrivals) ≡ rejected_of (handled others other arrivals)
+rejected_shared files terms others other arrivals lowest same =
+    rejected_same files terms arrivals lowest
     ∙ ap (λ (t : FormerTerms). (former_outcome t arrivals).rejected) same
-    ∙ sym (rejected_same other arrivals lowest)
+    ∙ sym (rejected_same others other arrivals lowest)
 
-summary_shared : (terms other : Terms) (arrivals : List Arrival) → AreLowest arrivals
-    → former_terms terms ≡ former_terms other
-    → summary_of terms arrivals ≡ summary_of other arrivals
-summary_shared terms other arrivals lowest same =
-    summary_same terms arrivals lowest
+summary_shared : (files : List File) (terms : Terms) (others : List File) (other : Terms) (arrivals : List Arrival) → AreLowest arrivals
+    → former_terms files terms ≡ former_terms others other
+    → summary_of files terms arrivals ≡ summary_of others other arrivals
+summary_shared files terms others other arrivals lowest same =
+    summary_same files terms arrivals lowest
     ∙ ap (λ (t : FormerTerms). (in_tiers (former_outcome t arrivals)).summary) same
-    ∙ sym (summary_same other arrivals lowest)
+    ∙ sym (summary_same others other arrivals lowest)
 
 -- the answer to another text of the same records
-carried : (terms other : Terms) (text later : List ℕ) (old new : Option (List ℕ)) (outcome : Outcome) (v : Version)
+carried : (files : List File) (terms : Terms) (others : List File) (other : Terms) (text later : List ℕ) (old new : Option (List ℕ)) (outcome : Outcome) (v : Version)
     (start : ℕ) (records : List Record)
-    → (a : Answers terms (Some text) old new outcome) → a.read.capture.start ≡ start → a.read.capture.records ≡ records
+    → (a : Answers files terms (Some text) old new outcome) → a.read.capture.start ≡ start → a.read.capture.records ≡ records
     → All (IsRecord One) records → IsCaptureText v later start records → (format_of v).used_again ≡ false
     → (format_of a.read.capture.version).max_messages ≤ (format_of v).max_messages
-    → former_terms terms ≡ former_terms other → Answers other (Some later) old new (told_in v outcome)
-carried terms other text later old new outcome v start records a begin all each capture once most same =
+    → former_terms files terms ≡ former_terms others other → Answers others other (Some later) old new (told_in v outcome)
+carried files terms others other text later old new outcome v start records a begin all each capture once most same =
     let arrivals = a.read.arrivals in
     let few = a.read.few in
     let arrived : AreArrivals (used_once records) arrivals = subst (λ rs. AreArrivals (used_once rs) arrivals) all a.read.are in
     let are : AreArrivals records arrivals = subst (λ rs. AreArrivals rs arrivals) (numbers_once v start records once capture.rules) arrived in
     let lowest : AreLowest arrivals = lowest_of records arrivals each are in
-    record {
-      read = record {
-        capture = record {
-          version = v;
-          start = start;
-          records = records;
-          rules = capture.rules;
-          text = λ known. capture;
-        };
-        arrivals = arrivals;
-        are = arrived;
-        few = omega (arith, few, most);
+    answered others other (Some later) old new (told_in v outcome)
+    (record {
+      capture = record {
+        version = v;
+        start = start;
+        records = records;
+        rules = capture.rules;
+        text = λ known. capture;
       };
-      written = subst (λ rs. Appends old new (replies_text rs))
-          (ap (λ s. replies_of terms s (handled terms arrivals)) begin
-          ∙ text_shared terms other start arrivals lowest same) a.written;
-      outcome_is = same_outcome (told_in v outcome) (outcome_of v other arrivals) refl
-          (ap (λ (o : Outcome). o.rejected) a.outcome_is ∙ rejected_shared terms other arrivals lowest same)
-          (ap (λ (o : Outcome). o.summary) a.outcome_is ∙ summary_shared terms other arrivals lowest same);
-    }
+      arrivals = arrivals;
+      are = arrived;
+      few = omega (arith, few, most);
+    })
+    (subst (λ rs. Appends old new (replies_text rs))
+    (ap (λ s. replies_of files terms s (handled files terms arrivals)) begin
+    ∙ text_shared files terms others other start arrivals lowest same) a.written_exactly)
+    (same_outcome (told_in v outcome) (outcome_of v others other arrivals) refl
+    (a.listed_exactly ∙ rejected_shared files terms others other arrivals lowest same)
+    (a.figures ∙ summary_shared files terms others other arrivals lowest same))
 
 pub upgrade_keeps_answers : UpgradeKeepsAnswers
-upgrade_keeps_answers terms other text later old new outcome u one same =
+upgrade_keeps_answers files terms others other text later old new outcome u one same =
     let first : IsCaptureText One text u.start u.records =
     subst (λ v. IsCaptureText v text u.start u.records) one u.capture in
     let second : IsCaptureText Two later u.start u.records =
@@ -427,18 +429,18 @@ upgrade_keeps_answers terms other text later old new outcome u one same =
       (λ a.
           (let both = one_list text a.read.capture.version One a.read.capture.start u.start a.read.capture.records u.records
           (a.read.capture.text refl) first in
-          carried terms other text later old new outcome Two u.start u.records a both.1 both.2
+          carried files terms others other text later old new outcome Two u.start u.records a both.1 both.2
           first.rules.each second refl (let m = ap (λ v. (format_of v).max_messages) both.0 in omega (arith, m)) same)),
       (λ a.
           (let both = one_list later a.read.capture.version Two a.read.capture.start u.start a.read.capture.records u.records
           (a.read.capture.text refl) second in
-          carried terms other later text old new outcome One u.start u.records a both.1 both.2
+          carried files terms others other later text old new outcome One u.start u.records a both.1 both.2
           first.rules.each first refl (let m = ap (λ v. (format_of v).max_messages) both.0 in omega (arith, m)) same)),
     )
 
 -- the answer to the same records in a later format
 pub upgrade_keeps_replies : UpgradeKeepsReplies
-upgrade_keeps_replies terms to text upgraded old new outcome u a =
+upgrade_keeps_replies files terms to text upgraded old new outcome u a =
     let both = one_list text a.read.capture.version u.version a.read.capture.start u.start a.read.capture.records u.records
     (a.read.capture.text refl) u.capture in
     let few = a.read.few in
@@ -446,23 +448,21 @@ upgrade_keeps_replies terms to text upgraded old new outcome u a =
     let wider = more_messages to u.version in
     let capture : IsCaptureText (later to u.version) upgraded u.start u.records =
     subst (λ w. IsCaptureText (later to u.version) w u.start u.records) (sym u.text) (upgrade_is to u.version text u.start u.records u.capture) in
-    record {
-      read = record {
-        capture = record {
-          version = later to u.version;
-          start = u.start;
-          records = u.records;
-          rules = capture.rules;
-          text = λ known. capture;
-        };
-        arrivals = a.read.arrivals;
-        are = subst (λ rs. AreArrivals (used_once rs) a.read.arrivals) both.2 a.read.are;
-        few = omega (arith, few, most, wider);
+    answered files terms (Some upgraded) old new (told_in (later to u.version) outcome)
+    (record {
+      capture = record {
+        version = later to u.version;
+        start = u.start;
+        records = u.records;
+        rules = capture.rules;
+        text = λ known. capture;
       };
-      written = subst (λ s. Appends old new (replies_text (replies_of terms s (handled terms a.read.arrivals)))) both.1 a.written;
-      outcome_is = same_outcome (told_in (later to u.version) outcome) (outcome_of (later to u.version) terms a.read.arrivals) refl
-          (ap (λ (o : Outcome). o.rejected) a.outcome_is) (ap (λ (o : Outcome). o.summary) a.outcome_is);
-    }
+      arrivals = a.read.arrivals;
+      are = subst (λ rs. AreArrivals (used_once rs) a.read.arrivals) both.2 a.read.are;
+      few = omega (arith, few, most, wider);
+    })
+    (subst (λ s. Appends old new (replies_text (replies_of files terms s (handled files terms a.read.arrivals)))) both.1 a.written_exactly)
+    (same_outcome (told_in (later to u.version) outcome) (outcome_of (later to u.version) files terms a.read.arrivals) refl a.listed_exactly a.figures)
 
 -- ---- a former answer holds
 
@@ -607,33 +607,32 @@ lowered_outcome terms arrivals =
     (former_controls terms.tariff.costs.servers terms.rules (offers i)))
 
 pub former_answers_hold : FormerAnswersHold
-former_answers_hold terms input old new former f =
+former_answers_hold files terms input old new former f =
     let arrivals : List Arrival = map lowered f.arrivals in
     let lowest = lowered_all f.arrivals in
-    let reported : former_outcome (former_terms terms) arrivals ≡ former =
-    lowered_outcome (former_terms terms) f.arrivals ∙ sym f.outcome in
-    let text : former_replies (former_terms terms) f.start (former_handled (former_terms terms) f.arrivals)
-    ≡ replies_of terms f.start (handled terms arrivals) =
-    sym (text_same terms f.start arrivals lowest
-    ∙ ap (λ hs. former_replies (former_terms terms) f.start hs) (lowered_handled (former_terms terms) [] f.arrivals)
-    ∙ lowered_replies (former_terms terms) f.start (former_handled (former_terms terms) f.arrivals)) in (
-      record {
-        read = record {
-          capture = record {
-            version = One;
-            start = f.start;
-            records = f.records;
-            rules = f.rules;
-            text = f.capture;
-          };
-          arrivals = arrivals;
-          are = subst (λ rs. AreArrivals rs arrivals) (sym (numbers_once One f.start f.records refl f.rules)) (lowered_arrivals f.records f.arrivals f.rules.each f.arrived);
-          few = subst (λ n. n ≤ 1048576) (sym (length-map f.arrivals lowered)) f.few;
-        };
-        written = subst (λ rs. Appends old new (replies_text rs)) text f.written;
-        outcome_is = same_outcome (in_tiers former) (outcome_of One terms arrivals) refl
-            (sym (ap (λ (o : FormerOutcome). o.rejected) reported) ∙ sym (rejected_same terms arrivals lowest))
-            (sym (ap (λ (o : FormerOutcome). (in_tiers o).summary) reported) ∙ sym (summary_same terms arrivals lowest));
-      },
+    let reported : former_outcome (former_terms files terms) arrivals ≡ former =
+    lowered_outcome (former_terms files terms) f.arrivals ∙ sym f.outcome in
+    let text : former_replies (former_terms files terms) f.start (former_handled (former_terms files terms) f.arrivals)
+    ≡ replies_of files terms f.start (handled files terms arrivals) =
+    sym (text_same files terms f.start arrivals lowest
+    ∙ ap (λ hs. former_replies (former_terms files terms) f.start hs) (lowered_handled (former_terms files terms) [] f.arrivals)
+    ∙ lowered_replies (former_terms files terms) f.start (former_handled (former_terms files terms) f.arrivals)) in (
+      answered files terms input old new (in_tiers former)
+          (record {
+            capture = record {
+              version = One;
+              start = f.start;
+              records = f.records;
+              rules = f.rules;
+              text = f.capture;
+            };
+            arrivals = arrivals;
+            are = subst (λ rs. AreArrivals rs arrivals) (sym (numbers_once One f.start f.records refl f.rules)) (lowered_arrivals f.records f.arrivals f.rules.each f.arrived);
+            few = subst (λ n. n ≤ 1048576) (sym (length-map f.arrivals lowered)) f.few;
+          })
+          (subst (λ rs. Appends old new (replies_text rs)) text f.written)
+          (same_outcome (in_tiers former) (outcome_of One files terms arrivals) refl
+          (sym (ap (λ (o : FormerOutcome). o.rejected) reported) ∙ sym (rejected_same files terms arrivals lowest))
+          (sym (ap (λ (o : FormerOutcome). (in_tiers o).summary) reported) ∙ sym (summary_same files terms arrivals lowest))),
       refl,
     )

@@ -13,26 +13,27 @@ use Rattle.admission.proofs.RequestLemmas.{decided_from-push, served-push}
 use Rattle.reference.specs.Reference.{Terms, offer_at, offers_of, rejects, handled_next, handled_after, handled, samples_of}
 use Rattle.arrivals.specs.Reference.{Arrival}
 use Rattle.arrivals.specs.declared.incoming.Origin.{Origin}
+use Rattle.paths.specs.declared.file.File.{File}
 
 -- ---- offers
 
-pub offers_more : (terms : Terms) (arrivals : List Arrival) (a : Arrival) → offers_of terms (arrivals ++ a ∷ []) ≡ offers_of terms arrivals ++ offer_at terms a.origin a.message.what
+pub offers_more : (files : List File) (terms : Terms) (arrivals : List Arrival) (a : Arrival) → offers_of files terms (arrivals ++ a ∷ []) ≡ offers_of files terms arrivals ++ offer_at files terms a.origin a.message.what
 unfolding offers_of
-offers_more terms arrivals a =
-    flat_map-append (λ a. offer_at terms a.origin a.message.what) arrivals (a ∷ []) ∙ ap (λ xs. offers_of terms arrivals ++ xs) (append-nil (offer_at terms a.origin a.message.what))
+offers_more files terms arrivals a =
+    flat_map-append (λ a. offer_at files terms a.origin a.message.what) arrivals (a ∷ []) ∙ ap (λ xs. offers_of files terms arrivals ++ xs) (append-nil (offer_at files terms a.origin a.message.what))
 
-offer_few : (terms : Terms) (origin : Origin) (what : Meaning) → length (offer_at terms origin what) ≤ 1
-offer_few terms origin (Request method target version closing since) = omega arith
-offer_few terms origin (Bad fault) = omega arith
+offer_few : (files : List File) (terms : Terms) (origin : Origin) (what : Meaning) → length (offer_at files terms origin what) ≤ 1
+offer_few files terms origin (Request method target version closing since) = omega arith
+offer_few files terms origin (Bad fault) = omega arith
 
-pub offers_few : (terms : Terms) (arrivals : List Arrival) → length (offers_of terms arrivals) ≤ length arrivals
+pub offers_few : (files : List File) (terms : Terms) (arrivals : List Arrival) → length (offers_of files terms arrivals) ≤ length arrivals
 unfolding offers_of
-offers_few terms [] = omega arith
-offers_few terms (a ∷ arrivals) = omega (
+offers_few files terms [] = omega arith
+offers_few files terms (a ∷ arrivals) = omega (
   arith,
-  offers_few terms arrivals,
-  offer_few terms a.origin a.message.what,
-  length-append (offer_at terms a.origin a.message.what) (offers_of terms arrivals),
+  offers_few files terms arrivals,
+  offer_few files terms a.origin a.message.what,
+  length-append (offer_at files terms a.origin a.message.what) (offers_of files terms arrivals),
 )
 
 -- ---- decisions
@@ -86,21 +87,21 @@ samples_admitted station offers offer finish e =
 
 -- ---- messages
 
-pub handled_more : (terms : Terms) (earlier first more : List Arrival) → handled_after terms earlier (first ++ more) ≡ handled_after terms earlier first ++ handled_after terms (earlier ++ first) more
+pub handled_more : (files : List File) (terms : Terms) (earlier first more : List Arrival) → handled_after files terms earlier (first ++ more) ≡ handled_after files terms earlier first ++ handled_after files terms (earlier ++ first) more
 unfolding handled_after
-handled_more terms earlier [] more = rw (append-nil earlier) refl
-handled_more terms earlier (a ∷ first) more =
+handled_more files terms earlier [] more = rw (append-nil earlier) refl
+handled_more files terms earlier (a ∷ first) more =
     let e : (earlier ++ a ∷ []) ++ first ≡ earlier ++ a ∷ first = append_assoc earlier (a ∷ []) first in
-    ap (λ hs. handled_next terms earlier a ∷ hs) (handled_more terms (earlier ++ a ∷ []) first more ∙ ap (λ past. handled_after terms (earlier ++ a ∷ []) first ++ handled_after terms past more) e)
+    ap (λ hs. handled_next files terms earlier a ∷ hs) (handled_more files terms (earlier ++ a ∷ []) first more ∙ ap (λ past. handled_after files terms (earlier ++ a ∷ []) first ++ handled_after files terms past more) e)
 
-pub handled_one : (terms : Terms) (earlier : List Arrival) (a : Arrival) → handled_after terms earlier (a ∷ []) ≡ handled_next terms earlier a ∷ []
+pub handled_one : (files : List File) (terms : Terms) (earlier : List Arrival) (a : Arrival) → handled_after files terms earlier (a ∷ []) ≡ handled_next files terms earlier a ∷ []
 unfolding handled_after
-handled_one terms earlier a = refl
+handled_one files terms earlier a = refl
 
-pub handled_push : (terms : Terms) (arrivals : List Arrival) (a : Arrival) → handled terms (arrivals ++ a ∷ []) ≡ handled terms arrivals ++ handled_next terms arrivals a ∷ []
-handled_push terms arrivals a = handled_more terms [] arrivals (a ∷ []) ∙ ap (λ hs. handled terms arrivals ++ hs) (handled_one terms arrivals a)
+pub handled_push : (files : List File) (terms : Terms) (arrivals : List Arrival) (a : Arrival) → handled files terms (arrivals ++ a ∷ []) ≡ handled files terms arrivals ++ handled_next files terms arrivals a ∷ []
+handled_push files terms arrivals a = handled_more files terms [] arrivals (a ∷ []) ∙ ap (λ hs. handled files terms arrivals ++ hs) (handled_one files terms arrivals a)
 
-pub handled_count : (terms : Terms) (earlier arrivals : List Arrival) → length (handled_after terms earlier arrivals) ≡ length arrivals
+pub handled_count : (files : List File) (terms : Terms) (earlier arrivals : List Arrival) → length (handled_after files terms earlier arrivals) ≡ length arrivals
 unfolding handled_after
-handled_count terms earlier [] = refl
-handled_count terms earlier (a ∷ arrivals) = ap (λ n. suc n) (handled_count terms (earlier ++ a ∷ []) arrivals)
+handled_count files terms earlier [] = refl
+handled_count files terms earlier (a ∷ arrivals) = ap (λ n. suc n) (handled_count files terms (earlier ++ a ∷ []) arrivals)

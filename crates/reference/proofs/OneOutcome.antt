@@ -17,6 +17,7 @@ use Rattle.reference.specs.Outcomes.{WritesAll, Stops, StopsFull}
 use Rattle.reference.specs.Laws.{AnsweredNotFaulty, AnsweredNotFull, FaultyNotFull, OneFault, OneLimit}
 use Rattle.arrivals.proofs.ArrivalLaws.{one_list_of_arrivals, arrivals_begin}
 use Rattle.reference.proofs.OneAnswer.{grows_once}
+use Rattle.paths.specs.declared.file.File.{File}
 
 -- ---- arrivals of the first records
 
@@ -39,21 +40,21 @@ none_more rs ss is = is ∙ append-nil rs
 -- ---- a fault of the capture
 
 -- a fault of the capture that was foreseen is the first of its text
-first_fault : (terms : Terms) (input ahead old new : Option (List ℕ)) (f : CaptureFault) → is_some input ≡ true → is_unforeseen_kind f.kind ≡ false → Stops terms input ahead old new f
+first_fault : (files : List File) (terms : Terms) (input ahead old new : Option (List ℕ)) (f : CaptureFault) → is_some input ≡ true → is_unforeseen_kind f.kind ≡ false → Stops files terms input ahead old new f
     → IsFirstFault (unwrap_or input []) f
-first_fault terms input ahead old new f known foreseen (inl first) = inl (first.0.fault foreseen known)
-first_fault terms input ahead old new f known foreseen (inr after) = inr (after.0.version, after.0.start, after.0.records, after.1.fault foreseen known)
+first_fault files terms input ahead old new f known foreseen (inl first) = inl (first.0.fault foreseen known)
+first_fault files terms input ahead old new f known foreseen (inr after) = inr (after.0.version, after.0.start, after.0.records, after.1.fault foreseen known)
 
 pub answered_not_faulty : AnsweredNotFaulty
-answered_not_faulty terms others input ahead old new before after outcome f known foreseen a s =
+answered_not_faulty files terms other_files others input ahead old new before after outcome f known foreseen a s =
     let c = a.read.capture in
     let text = c.text known in
-    no_fault (unwrap_or input []) c.version c.start c.records f (few_records c.version (unwrap_or input []) c.start c.records text) text (first_fault others input ahead before after f known foreseen s)
+    no_fault (unwrap_or input []) c.version c.start c.records f (few_records c.version (unwrap_or input []) c.start c.records text) text (first_fault other_files others input ahead before after f known foreseen s)
 
 -- ---- messages beyond the limit
 
 pub answered_not_full : AnsweredNotFull
-answered_not_full terms others input old new before after outcome number known a full =
+answered_not_full files terms other_files others input old new before after outcome number known a full =
     let bytes = unwrap_or input [] in
     let t = full.taken.read in
     let c = a.read.capture in
@@ -82,9 +83,9 @@ go_on v w bytes s t rs ss f x y xs ys [] fault a few b beyond rules size same st
 go_on v w bytes s t rs ss f x y xs ys (q ∷ more) fault a few b beyond rules size same start is rest =
     no_fault_among v w bytes s t rs ss f x y q more fault rules (let most = ap (λ u. (format_of u).max_text_bytes) same in omega (arith, size, most)) same start is rest
 
-after_not_full : (terms others : Terms) (input ahead old new before after : Option (List ℕ)) (f : CaptureFault) (number : ℕ) → is_some input ≡ true → is_unforeseen_kind f.kind ≡ false
-    → (r : RecordsRead input) → FaultsNext input ahead r f → WritesAll (reply_texts terms) r.version r.start r.records old new → StopsFull others input before after number → ⊥
-after_not_full terms others input ahead old new before after f number known foreseen r faults reported full =
+after_not_full : (files : List File) (terms : Terms) (other_files : List File) (others : Terms) (input ahead old new before after : Option (List ℕ)) (f : CaptureFault) (number : ℕ) → is_some input ≡ true → is_unforeseen_kind f.kind ≡ false
+    → (r : RecordsRead input) → FaultsNext input ahead r f → WritesAll (reply_texts files terms) r.version r.start r.records old new → StopsFull other_files others input before after number → ⊥
+after_not_full files terms other_files others input ahead old new before after f number known foreseen r faults reported full =
     let bytes = unwrap_or input [] in
     let t = full.taken.read in
     let at = faults.fault foreseen known in
@@ -103,11 +104,11 @@ after_not_full terms others input ahead old new before after f number known fore
     ]
 
 pub faulty_not_full : FaultyNotFull
-faulty_not_full terms others input ahead old new before after f number known foreseen (inl first) full =
+faulty_not_full files terms other_files others input ahead old new before after f number known foreseen (inl first) full =
     let t = full.taken.read in
     no_header_fault t.version (unwrap_or input []) t.start t.records t.rest f t.rules (t.begins known) (t.size known) (first.0.fault foreseen known)
-faulty_not_full terms others input ahead old new before after f number known foreseen (inr stop) full =
-    after_not_full terms others input ahead old new before after f number known foreseen stop.0 stop.1 stop.2 full
+faulty_not_full files terms other_files others input ahead old new before after f number known foreseen (inr stop) full =
+    after_not_full files terms other_files others input ahead old new before after f number known foreseen stop.0 stop.1 stop.2 full
 
 -- ---- what is written
 
@@ -127,12 +128,12 @@ same_limit : (n : ℕ) (rs ss : List Record) (x y : List ℕ) (xs ys : List Arri
 same_limit n rs ss x y xs ys a b g h (inl c) = sym (same_first n rs ss c.0 xs ys c.1 a b g)
 same_limit n rs ss x y xs ys a b g h (inr c) = same_first n ss rs (c.0 ∷ c.1) ys xs c.2 b a h
 
-same_text : (terms : Terms) (s t : ℕ) (xs ys : List Arrival) → s ≡ t → xs ≡ ys → text_before_stop (replies_of terms s (handled terms xs)) ≡ text_before_stop (replies_of terms t (handled terms ys))
-same_text terms s t xs ys start same =
-    ap (λ u. text_before_stop (replies_of terms u (handled terms xs))) start ∙ ap (λ (l : List Arrival). text_before_stop (replies_of terms t (handled terms l))) same
+same_text : (files : List File) (terms : Terms) (s t : ℕ) (xs ys : List Arrival) → s ≡ t → xs ≡ ys → text_before_stop (replies_of files terms s (handled files terms xs)) ≡ text_before_stop (replies_of files terms t (handled files terms ys))
+same_text files terms s t xs ys start same =
+    ap (λ u. text_before_stop (replies_of files terms u (handled files terms xs))) start ∙ ap (λ (l : List Arrival). text_before_stop (replies_of files terms t (handled files terms l))) same
 
 pub one_limit : OneLimit
-one_limit terms input old new other number another known given a b =
+one_limit files terms input old new other number another known given a b =
     let r = a.taken.read in
     let t = b.taken.read in
     let both = agree_on (unwrap_or input []) r.version t.version r.start t.start r.records t.records r.rest t.rest r.rules t.rules (r.begins known) (t.begins known) in
@@ -141,39 +142,39 @@ one_limit terms input old new other number another known given a b =
     let first : take number a.taken.arrivals ≡ take number b.taken.arrivals =
     same_limit number r.records t.records r.rest t.rest a.taken.arrivals b.taken.arrivals a.taken.arrived b.taken.arrived a.beyond (omega (arith, beyond, same)) both.2 in
     let both_first : take number a.taken.arrivals ≡ take another b.taken.arrivals = first ∙ ap (λ n. take n b.taken.arrivals) same in (
-      grows_once old new other _ _ given (same_text terms r.start t.start _ _ both.1 both_first) a.written b.written,
+      grows_once old new other _ _ given (same_text files terms r.start t.start _ _ both.1 both_first) a.written b.written,
       same,
     )
 
-same_after : (terms : Terms) (input ahead following old new other : Option (List ℕ)) (f g : CaptureFault) → is_some input ≡ true → is_some old ≡ true → f ≡ g
+same_after : (files : List File) (terms : Terms) (input ahead following old new other : Option (List ℕ)) (f g : CaptureFault) → is_some input ≡ true → is_some old ≡ true → f ≡ g
     → (r t : RecordsRead input) → FaultsNext input ahead r f → FaultsNext input following t g
-    → WritesAll (reply_texts terms) r.version r.start r.records old new → WritesAll (reply_texts terms) t.version t.start t.records old other → new ≡ other
-same_after terms input ahead following old new other f g known given same r t at after a b =
+    → WritesAll (reply_texts files terms) r.version r.start r.records old new → WritesAll (reply_texts files terms) t.version t.start t.records old other → new ≡ other
+same_after files terms input ahead following old new other f g known given same r t at after a b =
     let both = agree_on (unwrap_or input []) r.version t.version r.start t.start r.records t.records r.rest t.rest r.rules t.rules (r.begins known) (t.begins known) in
     let place = ap (λ (k : CaptureFault). k.at) same in
     let i = at.at in
     let j = after.at in
     let records = same_records r.records t.records r.rest t.rest (omega (arith, place, i, j)) both.2 in
     let arrivals = one_list_of_arrivals (used_once t.records) a.arrivals b.arrivals (subst (λ (l : List Record). AreArrivals (used_once l) a.arrivals) records a.arrived) b.arrived in
-    grows_once old new other _ _ given (same_text terms r.start t.start a.arrivals b.arrivals both.1 arrivals) a.written b.written
+    grows_once old new other _ _ given (same_text files terms r.start t.start a.arrivals b.arrivals both.1 arrivals) a.written b.written
 
-same_written : (terms : Terms) (input ahead following old new other : Option (List ℕ)) (f g : CaptureFault) → is_some input ≡ true → is_some old ≡ true → f ≡ g
-    → Stops terms input ahead old new f → Stops terms input following old other g → new ≡ other
-same_written terms input ahead following old new other f g known given same (inl a) (inl b) = grows_once old new other first_line first_line given refl a.1 b.1
-same_written terms input ahead following old new other f g known given same (inl a) (inr b) =
+same_written : (files : List File) (terms : Terms) (input ahead following old new other : Option (List ℕ)) (f g : CaptureFault) → is_some input ≡ true → is_some old ≡ true → f ≡ g
+    → Stops files terms input ahead old new f → Stops files terms input following old other g → new ≡ other
+same_written files terms input ahead following old new other f g known given same (inl a) (inl b) = grows_once old new other first_line first_line given refl a.1 b.1
+same_written files terms input ahead following old new other f g known given same (inl a) (inr b) =
     let place = ap (λ (k : CaptureFault). k.at) same in
     let i = a.0.at in
     let j = b.1.at in
     absurd (omega (arith, place, i, j))
-same_written terms input ahead following old new other f g known given same (inr a) (inl b) =
+same_written files terms input ahead following old new other f g known given same (inr a) (inl b) =
     let place = ap (λ (k : CaptureFault). k.at) same in
     let i = a.1.at in
     let j = b.0.at in
     absurd (omega (arith, place, i, j))
-same_written terms input ahead following old new other f g known given same (inr a) (inr b) =
-    same_after terms input ahead following old new other f g known given same a.0 b.0 a.1 b.1 a.2 b.2
+same_written files terms input ahead following old new other f g known given same (inr a) (inr b) =
+    same_after files terms input ahead following old new other f g known given same a.0 b.0 a.1 b.1 a.2 b.2
 
 pub one_fault : OneFault
-one_fault terms input ahead following old new other f g known given foreseen expected a b =
-    let same = one_first_fault (unwrap_or input []) f g (first_fault terms input ahead old new f known foreseen a) (first_fault terms input following old other g known expected b) in
-    (same_written terms input ahead following old new other f g known given same a b, same)
+one_fault files terms input ahead following old new other f g known given foreseen expected a b =
+    let same = one_first_fault (unwrap_or input []) f g (first_fault files terms input ahead old new f known foreseen a) (first_fault files terms input following old other g known expected b) in
+    (same_written files terms input ahead following old new other f g known given same a b, same)

@@ -48,12 +48,12 @@ status_kept X Y (Unmodified mtime) = refl
 status_kept X Y (Moved location) = refl
 status_kept X Y (Plain status) = refl
 
-given_same : (X Y : Type 0) (terms : Terms) (away : Bool) (what : Meaning) → at_pages {X = X} {Y = Y} (given terms away what) ≡ given terms away what
-given_same X Y terms true what = refl
-given_same X Y terms false what = answer_same X Y terms.files what
+given_same : (X Y : Type 0) (files : List File) (terms : Terms) (away : Bool) (what : Meaning) → at_pages {X = X} {Y = Y} (given files terms away what) ≡ given files terms away what
+given_same X Y files terms true what = refl
+given_same X Y files terms false what = answer_same X Y files what
 
-pub status_same : (X Y : Type 0) (terms : Terms) (away : Bool) (what : Meaning) → status_of (given {X = X} terms away what) ≡ status_of (given {X = Y} terms away what)
-status_same X Y terms away what = sym (status_kept X Y (given terms away what)) ∙ ap status_of (given_same X Y terms away what)
+pub status_same : (X Y : Type 0) (files : List File) (terms : Terms) (away : Bool) (what : Meaning) → status_of (given {X = X} files terms away what) ≡ status_of (given {X = Y} files terms away what)
+status_same X Y files terms away what = sym (status_kept X Y (given files terms away what)) ∙ ap status_of (given_same X Y files terms away what)
 
 -- a slip of these parts
 slip_with : {X : Type 0} → ℕ → ℕ → ℕ → Bool → Persistence → Given X → Slip X
@@ -68,16 +68,16 @@ text_kept X Y files number conn date head link (Unmodified mtime) = refl
 text_kept X Y files number conn date head link (Moved location) = refl
 text_kept X Y files number conn date head link (Plain status) = refl
 
-pub text_same : (X Y : Type 0) (terms : Terms) (start : ℕ) (h : Handled) → reply_text terms.files (slip_of {X = X} terms start h) ≡ reply_text terms.files (slip_of {X = Y} terms start h)
+pub text_same : (X Y : Type 0) (files : List File) (terms : Terms) (start : ℕ) (h : Handled) → reply_text files (slip_of {X = X} files terms start h) ≡ reply_text files (slip_of {X = Y} files terms start h)
 unfolding slip_with
-text_same X Y terms start h =
-    let slip : Slip X = slip_of terms start h in
-    sym (text_kept X Y terms.files slip.number slip.conn slip.date slip.head slip.link slip.what)
-    ∙ ap (λ reported. reply_text terms.files (slip_with slip.number slip.conn slip.date slip.head slip.link reported)) (given_same X Y terms h.turned_away h.arrival.message.what)
+text_same X Y files terms start h =
+    let slip : Slip X = slip_of files terms start h in
+    sym (text_kept X Y files slip.number slip.conn slip.date slip.head slip.link slip.what)
+    ∙ ap (λ reported. reply_text files (slip_with slip.number slip.conn slip.date slip.head slip.link reported)) (given_same X Y files terms h.turned_away h.arrival.message.what)
 
 -- a rendered slip is the reply
-pub reply_is : {X : Type 0} (terms : Terms) (start : ℕ) (h : Handled) (slip : Slip X) (r : ℕ × ℕ × List ℕ)
-    → slip ≡ slip_of terms start h → r ≡ (slip.number, slip.conn, reply_text terms.files slip) → r ≡ reply_of terms start h
+pub reply_is : {X : Type 0} (files : List File) (terms : Terms) (start : ℕ) (h : Handled) (slip : Slip X) (r : ℕ × ℕ × List ℕ)
+    → slip ≡ slip_of files terms start h → r ≡ (slip.number, slip.conn, reply_text files slip) → r ≡ reply_of files terms start h
 unfolding reply_of
-reply_is {X = X} terms start h slip r e g =
-    g ∙ ap (λ s. (s.number, s.conn, reply_text terms.files s)) e ∙ ap (λ t. (h.number, h.arrival.origin.conn, t)) (text_same X (Unit {0}) terms start h)
+reply_is {X = X} files terms start h slip r e g =
+    g ∙ ap (λ s. (s.number, s.conn, reply_text files s)) e ∙ ap (λ t. (h.number, h.arrival.origin.conn, t)) (text_same X (Unit {0}) files terms start h)

@@ -13,33 +13,34 @@ use Rattle.reference.specs.Texts.{AreTexts}
 use Rattle.reference.specs.Explaining.{first_offered, row_after, rows_after, table, row_texts}
 use Rattle.reference.specs.Laws.{is_row_rejected, RowsAgree, StartsOnceFree}
 use Rattle.reference.proofs.Offering.{finish_is}
+use Rattle.paths.specs.declared.file.File.{File}
 
 -- ---- rows after rows
 
-rows_more : (terms : Terms) (earlier first more : List Arrival) → rows_after terms earlier (first ++ more) ≡ rows_after terms earlier first ++ rows_after terms (earlier ++ first) more
+rows_more : (files : List File) (terms : Terms) (earlier first more : List Arrival) → rows_after files terms earlier (first ++ more) ≡ rows_after files terms earlier first ++ rows_after files terms (earlier ++ first) more
 unfolding rows_after
-rows_more terms earlier [] more = rw (append-nil earlier) refl
-rows_more terms earlier (a ∷ first) more =
+rows_more files terms earlier [] more = rw (append-nil earlier) refl
+rows_more files terms earlier (a ∷ first) more =
     let e : (earlier ++ a ∷ []) ++ first ≡ earlier ++ a ∷ first = append_assoc earlier (a ∷ []) first in
-    ap (λ v. row_after terms earlier a ++ v) (rows_more terms (earlier ++ a ∷ []) first more ∙ ap (λ past. rows_after terms (earlier ++ a ∷ []) first ++ rows_after terms past more) e)
-    ∙ sym (append_assoc (row_after terms earlier a) (rows_after terms (earlier ++ a ∷ []) first) (rows_after terms (earlier ++ a ∷ first) more))
+    ap (λ v. row_after files terms earlier a ++ v) (rows_more files terms (earlier ++ a ∷ []) first more ∙ ap (λ past. rows_after files terms (earlier ++ a ∷ []) first ++ rows_after files terms past more) e)
+    ∙ sym (append_assoc (row_after files terms earlier a) (rows_after files terms (earlier ++ a ∷ []) first) (rows_after files terms (earlier ++ a ∷ first) more))
 
-rows_none : (terms : Terms) (earlier : List Arrival) → rows_after terms earlier [] ≡ []
+rows_none : (files : List File) (terms : Terms) (earlier : List Arrival) → rows_after files terms earlier [] ≡ []
 unfolding rows_after
-rows_none terms earlier = refl
+rows_none files terms earlier = refl
 
-pub rows_one : (terms : Terms) (earlier : List Arrival) (a : Arrival) → rows_after terms earlier (a ∷ []) ≡ row_after terms earlier a
+pub rows_one : (files : List File) (terms : Terms) (earlier : List Arrival) (a : Arrival) → rows_after files terms earlier (a ∷ []) ≡ row_after files terms earlier a
 unfolding rows_after
-rows_one terms earlier a = append-nil (row_after terms earlier a)
+rows_one files terms earlier a = append-nil (row_after files terms earlier a)
 
 -- the rows are told from the heading on
-pub rows_laws : (terms : Terms) → AreTexts (row_texts terms)
-rows_laws terms = record {
-  begins = λ start. ap (λ v. heading ++ v) (rows_none terms []) ∙ append-nil heading;
-  goes_on = λ start arrivals more. ap (λ v. heading ++ v) (rows_more terms [] arrivals more) ∙ sym (append_assoc heading (rows_after terms [] arrivals) (rows_after terms arrivals more));
-  none = λ start. rows_none terms;
-  more = λ start. rows_more terms;
-  ends = λ start arrivals. sym (append-nil (table terms arrivals));
+pub rows_laws : (files : List File) (terms : Terms) → AreTexts (row_texts files terms)
+rows_laws files terms = record {
+  begins = λ start. ap (λ v. heading ++ v) (rows_none files terms []) ∙ append-nil heading;
+  goes_on = λ start arrivals more. ap (λ v. heading ++ v) (rows_more files terms [] arrivals more) ∙ sym (append_assoc heading (rows_after files terms [] arrivals) (rows_after files terms arrivals more));
+  none = λ start. rows_none files terms;
+  more = λ start. rows_more files terms;
+  ends = λ start arrivals. sym (append-nil (table files terms arrivals));
 }
 
 pub alone : (t : Bool) → (t || false) ≡ t
@@ -48,24 +49,24 @@ alone false = refl
 
 -- ---- what rows say
 
-rejected_one : (terms : Terms) (earlier : List Arrival) (offer : Offer)
-    → is_row_rejected (first_offered terms earlier (offer ∷ [])) ≡ list_any (rejects (station_for terms) (offers_of terms earlier)) (offer ∷ [])
+rejected_one : (files : List File) (terms : Terms) (earlier : List Arrival) (offer : Offer)
+    → is_row_rejected (first_offered files terms earlier (offer ∷ [])) ≡ list_any (rejects (station_for terms) (offers_of files terms earlier)) (offer ∷ [])
 unfolding rejects
-rejected_one terms earlier offer =
-    sym (alone (is_rejected (decide (station_for terms) (decided (station_for terms) (offers_of terms earlier)) offer)))
+rejected_one files terms earlier offer =
+    sym (alone (is_rejected (decide (station_for terms) (decided (station_for terms) (offers_of files terms earlier)) offer)))
 
-rejected_row : (terms : Terms) (earlier : List Arrival) (origin : Origin) (what : Meaning)
-    → is_row_rejected (first_offered terms earlier (offer_at terms origin what)) ≡ list_any (rejects (station_for terms) (offers_of terms earlier)) (offer_at terms origin what)
-rejected_row terms earlier origin (Request method target version closing since) =
-    rejected_one terms earlier (offer_of terms origin (charge_of terms target (is_head method) since (outcome terms.files (asked method target))))
-rejected_row terms earlier origin (Bad fault) = refl
+rejected_row : (files : List File) (terms : Terms) (earlier : List Arrival) (origin : Origin) (what : Meaning)
+    → is_row_rejected (first_offered files terms earlier (offer_at files terms origin what)) ≡ list_any (rejects (station_for terms) (offers_of files terms earlier)) (offer_at files terms origin what)
+rejected_row files terms earlier origin (Request method target version closing since) =
+    rejected_one files terms earlier (offer_of terms origin (charge_of files terms target (is_head method) since (outcome files (asked method target))))
+rejected_row files terms earlier origin (Bad fault) = refl
 
 pub rows_agree : RowsAgree
-rows_agree terms earlier a = rejected_row terms earlier a.origin a.message.what
+rows_agree files terms earlier a = rejected_row files terms earlier a.origin a.message.what
 
 pub starts_once_free : StartsOnceFree
-starts_once_free terms earlier offer finish admitted =
-    let past = decided (station_for terms) (offers_of terms earlier) in
+starts_once_free files terms earlier offer finish admitted =
+    let past = decided (station_for terms) (offers_of files terms earlier) in
     let free = free_at terms.tariff.costs.servers (served past) in
     let is : finish ≡ max free offer.tick + offer.service = finish_is _ _ _ (sym admitted) in
     begins free offer.tick offer.service finish is

@@ -10,32 +10,35 @@ use Rattle.decision_table.specs.declared.row.Row.{Row}
 use Rattle.decision_table.specs.Rows.{heading, row_text}
 use Rattle.arrivals.specs.Reference.{Arrival}
 use Rattle.reference.specs.Reference.{Terms, station_for, tick_in, offer_at, offers_of, handled_next, status_for}
-use Rattle.reference.specs.Reference.{ArrivedCapture, outcome_of}
+use Rattle.reference.specs.Reference.{ArrivedCapture}
+use Rattle.reference.specs.Outcomes.{outcome_of}
 use Rattle.reference.specs.Texts.{Texts}
 use Rattle.reference.specs.declared.summary.Outcome.{Outcome}
+use Rattle.paths.specs.declared.file.File.{File}
 
 -- an offer after those of the earlier messages: what it finds, and the decision on it
-abbrev pub offered_after : Terms → List Arrival → Offer → Offered
-offered_after terms earlier offer = record {
+abbrev pub offered_after : List File → Terms → List Arrival → Offer → Offered
+offered_after files terms earlier offer = record {
   service = offer.service;
-  found = outlook (station_for terms) (decided (station_for terms) (offers_of terms earlier)) offer.tier offer.tick;
-  decision = decide (station_for terms) (decided (station_for terms) (offers_of terms earlier)) offer;
+  found = outlook (station_for terms) (decided (station_for terms)
+      (offers_of files terms earlier)) offer.tier offer.tick;
+  decision = decide (station_for terms) (decided (station_for terms) (offers_of files terms earlier)) offer;
 }
 
 -- the offer that a message makes, if it makes one
-abbrev pub first_offered : Terms → List Arrival → List Offer → Option Offered
-first_offered terms earlier [] = None
-first_offered terms earlier (offer ∷ offers) = Some (offered_after terms earlier offer)
+abbrev pub first_offered : List File → Terms → List Arrival → List Offer → Option Offered
+first_offered files terms earlier [] = None
+first_offered files terms earlier (offer ∷ offers) = Some (offered_after files terms earlier offer)
 
 -- what the row of a message after the earlier ones says, besides its method and its target
-abbrev pub row_of : Terms → List Arrival → Arrival → Row
-row_of terms earlier a = record {
+abbrev pub row_of : List File → Terms → List Arrival → Arrival → Row
+row_of files terms earlier a = record {
   number = length earlier;
   conn = a.origin.conn;
   tick = tick_in terms a.origin;
   tier = a.origin.tier;
-  status = status_for terms (handled_next terms earlier a);
-  offered = first_offered terms earlier (offer_at terms a.origin a.message.what);
+  status = status_for files terms (handled_next files terms earlier a);
+  offered = first_offered files terms earlier (offer_at files terms a.origin a.message.what);
 }
 
 abbrev pub method_of : Meaning → List ℕ
@@ -47,31 +50,34 @@ target_of (Request method target version closing since) = target
 target_of (Bad fault) = []
 
 -- the row
-unfoldable pub row_after : Terms → List Arrival → Arrival → List ℕ
-row_after terms earlier a = row_text (row_of terms earlier a) (method_of a.message.what) (target_of a.message.what)
+unfoldable pub row_after : List File → Terms → List Arrival → Arrival → List ℕ
+row_after files terms earlier a = row_text (row_of files terms earlier a) (method_of a.message.what)
+    (target_of a.message.what)
 
 -- the rows of these messages after the earlier ones, each in turn
-unfoldable pub rows_after : Terms → List Arrival → List Arrival → List ℕ
-rows_after terms earlier [] = []
-rows_after terms earlier (a ∷ arrivals) = row_after terms earlier a ++ rows_after terms (earlier ++ a ∷ []) arrivals
+unfoldable pub rows_after : List File → Terms → List Arrival → List Arrival → List ℕ
+rows_after files terms earlier [] = []
+rows_after files terms earlier (a ∷ arrivals) = row_after files terms earlier a ++ rows_after files terms
+    (earlier ++ a ∷ []) arrivals
 
 -- the heading, and the rows of all messages in their order
-abbrev pub table : Terms → List Arrival → List ℕ
-table terms arrivals = heading ++ rows_after terms [] arrivals
+abbrev pub table : List File → Terms → List Arrival → List ℕ
+table files terms arrivals = heading ++ rows_after files terms [] arrivals
 
 -- the table has no last line
-abbrev pub row_texts : Terms → Texts
-row_texts terms = record {
+abbrev pub row_texts : List File → Terms → Texts
+row_texts files terms = record {
   first = heading;
-  so_far = λ start arrivals. table terms arrivals;
-  after = λ start earlier arrivals. rows_after terms earlier arrivals;
+  so_far = λ start arrivals. table files terms arrivals;
+  after = λ start earlier arrivals. rows_after files terms earlier arrivals;
   last = λ count. [];
-  whole = λ start arrivals. table terms arrivals;
+  whole = λ start arrivals. table files terms arrivals;
 }
 
 -- The table of a capture, and that it was written: the input is the text of a capture with this start and these
 -- records, of which these are the arrivals; and the outcome is that of `Answers`.
-pub record Explains (terms : Terms) (input old new : Option (List ℕ)) (outcome : Outcome) : Type 0 where
+pub record Explains (files : List File) (terms : Terms) (input old new : Option (List ℕ))
+    (outcome : Outcome) : Type 0 where
   pub read : ArrivedCapture input
-  pub written : Appends old new (table terms read.arrivals)
-  pub outcome_is : outcome ≡ outcome_of read.capture.version terms read.arrivals
+  pub written : Appends old new (table files terms read.arrivals)
+  pub outcome_is : outcome ≡ outcome_of read.capture.version files terms read.arrivals

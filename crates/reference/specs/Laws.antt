@@ -14,108 +14,94 @@ use Rattle.decision_table.specs.declared.row.Offered.{Offered}
 use Rattle.paths.specs.declared.file.File.{File}
 use Rattle.reference.specs.declared.summary.Outcome.{Outcome}
 use Rattle.reference.specs.declared.summary.Tally.{Tally}
-use Rattle.arrivals.specs.Reference.{Arrival, AreArrivals, text_of}
+use Rattle.arrivals.specs.Reference.{Arrival, AreArrivals}
 use Rattle.arrivals.specs.Connections.{IsNumber}
-use Rattle.http_requests.specs.Reference.{MessagesOf}
 use Rattle.http_requests.specs.declared.messages.Meaning.{Meaning}
 use Rattle.arrivals.specs.declared.incoming.Origin.{Origin}
-use Rattle.reference.specs.Reference.{Choice, Terms, terms_of, station_for, Handled, handled, handled_next, Answers}
-use Rattle.reference.specs.Reference.{replies_of, reply_of, rejected_of, summary_of}
+use Rattle.reference.specs.Reference.{Terms, station_for, Handled, handled, handled_next, Answers}
+use Rattle.reference.specs.Reference.{handled_on, replies_of, reply_of, rejected_of, summary_of}
 use Rattle.cost_model.specs.Reference.{Tariff}
+use Rattle.reference.specs.Choices.{with_tariff, at_speed}
 use Rattle.reference.specs.Explaining.{offered_after, row_of, table}
 use Rattle.reference.specs.Outcomes.{Stops, StopsFull}
 use Rattle.reference.specs.Former.{FormerTerms, FormerOutcome, FormerAnswers}
 
--- settings with the same tariff, policies, wait and speed have the same answers, whatever their graphs, batch and cache
-abbrev pub FloorsChangeNothing : Type 0
-FloorsChangeNothing = (files : List File) (c d : Choice) (input old new : Option (List ℕ)) (outcome : Outcome)
-    → c.tariff ≡ d.tariff → c.policies ≡ d.policies → c.retry_after ≡ d.retry_after → c.speed ≡ d.speed
-    → Answers (terms_of files c) input old new outcome → Answers (terms_of files d) input old new outcome
-
 -- a capture has one answer: what is written to a device of known bytes, and the outcome
 abbrev pub OneAnswer : Type 0
-OneAnswer = (terms : Terms) (input old new other : Option (List ℕ)) (outcome another : Outcome)
+OneAnswer = (files : List File) (terms : Terms) (input old new other : Option (List ℕ)) (outcome another : Outcome)
     → is_some input ≡ true → is_some old ≡ true
-    → Answers terms input old new outcome → Answers terms input old other another → (new ≡ other) × (outcome ≡ another)
+    → Answers files terms input old new outcome → Answers files terms input old other another → (new ≡ other)
+    × (outcome ≡ another)
 
 -- No input of known bytes has two of these: an answer; a fault of the capture that isn't a failed read or being out of
 -- memory; messages beyond the limit. Settings make no difference.
 abbrev pub AnsweredNotFaulty : Type 0
-AnsweredNotFaulty = (terms others : Terms) (input ahead old new before after : Option (List ℕ)) (outcome : Outcome)
+AnsweredNotFaulty = (files : List File) (terms : Terms) (other_files : List File) (others : Terms)
+    (input ahead old new before after : Option (List ℕ)) (outcome : Outcome)
     → (f : CaptureFault) → is_some input ≡ true → is_unforeseen_kind f.kind ≡ false
-    → Answers terms input old new outcome → Stops others input ahead before after f → ⊥
+    → Answers files terms input old new outcome → Stops other_files others input ahead before after f → ⊥
 
 abbrev pub AnsweredNotFull : Type 0
-AnsweredNotFull = (terms others : Terms) (input old new before after : Option (List ℕ)) (outcome : Outcome) (number : ℕ)
-    → is_some input ≡ true → Answers terms input old new outcome → StopsFull others input before after number → ⊥
+AnsweredNotFull = (files : List File) (terms : Terms) (other_files : List File) (others : Terms)
+    (input old new before after : Option (List ℕ)) (outcome : Outcome) (number : ℕ)
+    → is_some input ≡ true → Answers files terms input old new outcome
+    → StopsFull other_files others input before after number → ⊥
 
 abbrev pub FaultyNotFull : Type 0
-FaultyNotFull = (terms others : Terms) (input ahead old new before after : Option (List ℕ)) (f : CaptureFault)
+FaultyNotFull = (files : List File) (terms : Terms) (other_files : List File) (others : Terms)
+    (input ahead old new before after : Option (List ℕ)) (f : CaptureFault)
     → (number : ℕ) → is_some input ≡ true → is_unforeseen_kind f.kind ≡ false
-    → Stops terms input ahead old new f → StopsFull others input before after number → ⊥
+    → Stops files terms input ahead old new f → StopsFull other_files others input before after number → ⊥
 
 -- such a fault is one, and so is what is written to a device of known bytes
 abbrev pub OneFault : Type 0
-OneFault = (terms : Terms) (input ahead following old new other : Option (List ℕ)) (f g : CaptureFault)
+OneFault = (files : List File) (terms : Terms) (input ahead following old new other : Option (List ℕ))
+    (f g : CaptureFault)
     → is_some input ≡ true → is_some old ≡ true → is_unforeseen_kind f.kind ≡ false → is_unforeseen_kind g.kind ≡ false
-    → Stops terms input ahead old new f → Stops terms input following old other g → (new ≡ other) × (f ≡ g)
+    → Stops files terms input ahead old new f → Stops files terms input following old other g → (new ≡ other) × (f ≡ g)
 
 -- what is written up to the limit is one too
 abbrev pub OneLimit : Type 0
-OneLimit = (terms : Terms) (input old new other : Option (List ℕ)) (number another : ℕ)
+OneLimit = (files : List File) (terms : Terms) (input old new other : Option (List ℕ)) (number another : ℕ)
     → is_some input ≡ true → is_some old ≡ true
-    → StopsFull terms input old new number → StopsFull terms input old other another
+    → StopsFull files terms input old new number → StopsFull files terms input old other another
     → (new ≡ other) × (number ≡ another)
-
--- terms with another tariff: another table, or other routes
-abbrev pub with_tariff : Tariff → Terms → Terms
-with_tariff tariff terms = record {
-  files = terms.files;
-  tariff = tariff;
-  policies = terms.policies;
-  retry_after = terms.retry_after;
-  speed = terms.speed;
-}
 
 -- What requests cost changes no reply, and so no route does: a message that is turned away by both tariffs, or by
 -- neither, has one reply.
 abbrev pub TariffsChangeNoReply : Type 0
-TariffsChangeNoReply = (terms : Terms) (tariff : Tariff) (start : ℕ) (earlier : List Arrival) (a : Arrival)
-    → (handled_next terms earlier a).turned_away ≡ (handled_next (with_tariff tariff terms) earlier a).turned_away
-    → reply_of terms start (handled_next terms earlier a)
-    ≡ reply_of (with_tariff tariff terms) start (handled_next (with_tariff tariff terms) earlier a)
+TariffsChangeNoReply = (files : List File) (terms : Terms) (tariff : Tariff) (start : ℕ) (earlier : List Arrival)
+    (a : Arrival)
+    → (handled_next files terms earlier a).turned_away
+    ≡ (handled_next files (with_tariff tariff terms) earlier a).turned_away
+    → reply_of files terms start (handled_next files terms earlier a)
+    ≡ reply_of files (with_tariff tariff terms) start (handled_next files (with_tariff tariff terms) earlier a)
 
--- the messages of a connection, and what became of each
-abbrev pub handled_on : ℕ → List Handled → List Handled
-handled_on c messages = filter (λ h. h.arrival.connection == c) messages
-
--- The messages of a connection are answered in their order: those that were handled on it are, in this order, the
--- messages of its text. Where numbers are used once, the replies of a number are those to the messages of its
--- connection.
+-- Where numbers are used once, the replies of a number are those to the messages of its connection, in their order.
 abbrev pub RepliesInRequestOrder : Type 0
-RepliesInRequestOrder = (terms : Terms) (input old new : Option (List ℕ)) (outcome : Outcome)
-    → (answers : Answers terms input old new outcome) → (c : ℕ)
-    → MessagesOf (text_of c (used_once answers.read.capture.records))
-    (map (λ h. h.arrival.message) (handled_on c (handled terms answers.read.arrivals)))
-    × (IsNumber c → (format_of answers.read.capture.version).used_again ≡ false
+RepliesInRequestOrder = (files : List File) (terms : Terms) (input old new : Option (List ℕ)) (outcome : Outcome)
+    → (answers : Answers files terms input old new outcome) → (c : ℕ)
+    → IsNumber c → (format_of answers.read.capture.version).used_again ≡ false
     → filter (λ reply. reply.1 == c)
-    (replies_of terms answers.read.capture.start (handled terms answers.read.arrivals))
-    ≡ replies_of terms answers.read.capture.start (handled_on c (handled terms answers.read.arrivals)))
+    (replies_of files terms answers.read.capture.start (handled files terms answers.read.arrivals))
+    ≡ replies_of files terms answers.read.capture.start (handled_on c (handled files terms answers.read.arrivals))
 
 -- more arrivals change nothing of the numbers and the rejections of those before
 abbrev pub HandledBegin : Type 0
-HandledBegin = (terms : Terms) (arrivals more : List Arrival) → (rest : List Handled)
-    × (handled terms (arrivals ++ more) ≡ handled terms arrivals ++ rest)
+HandledBegin = (files : List File) (terms : Terms) (arrivals more : List Arrival) → (rest : List Handled)
+    × (handled files terms (arrivals ++ more) ≡ handled files terms arrivals ++ rest)
 
 -- the replies that are due for messages that arrived: to those within the limit of the format
-abbrev pub due : Version → Terms → ℕ → List Arrival → List (ℕ × ℕ × List ℕ)
-due v terms start arrivals = replies_of terms start (handled terms (take (format_of v).max_messages arrivals))
+abbrev pub due : Version → List File → Terms → ℕ → List Arrival → List (ℕ × ℕ × List ℕ)
+due v files terms start arrivals = replies_of files terms start
+    (handled files terms (take (format_of v).max_messages arrivals))
 
 -- more records add replies that are due at the end: those due for the first records are the first of those due for all
 abbrev pub DueBegin : Type 0
-DueBegin = (v : Version) (terms : Terms) (start : ℕ) (records more : List Record) (xs ys : List Arrival)
+DueBegin = (v : Version) (files : List File) (terms : Terms) (start : ℕ) (records more : List Record)
+    (xs ys : List Arrival)
     → AreArrivals (used_once records) xs → AreArrivals (used_once (records ++ more)) ys
-    → (rest : List (ℕ × ℕ × List ℕ)) × (due v terms start ys ≡ due v terms start xs ++ rest)
+    → (rest : List (ℕ × ℕ × List ℕ)) × (due v files terms start ys ≡ due v files terms start xs ++ rest)
 
 -- ---- rows and replies
 
@@ -125,21 +111,21 @@ is_row_rejected (Some o) = is_rejected o.decision
 
 -- a row says that a request was rejected exactly where its reply turns it away
 abbrev pub RowsAgree : Type 0
-RowsAgree = (terms : Terms) (earlier : List Arrival) (a : Arrival)
-    → is_row_rejected (row_of terms earlier a).offered ≡ (handled_next terms earlier a).turned_away
+RowsAgree = (files : List File) (terms : Terms) (earlier : List Arrival) (a : Arrival)
+    → is_row_rejected (row_of files terms earlier a).offered ≡ (handled_next files terms earlier a).turned_away
 
 -- the service of an admitted request begins when it came, or once it has waited as long as its row says
 abbrev pub StartsOnceFree : Type 0
-StartsOnceFree = (terms : Terms) (earlier : List Arrival) (offer : Offer) (finish : ℕ)
-    → (offered_after terms earlier offer).decision ≡ Admitted finish
-    → finish - offer.service ≡ offer.tick + ((offered_after terms earlier offer).found.free - offer.tick)
+StartsOnceFree = (files : List File) (terms : Terms) (earlier : List Arrival) (offer : Offer) (finish : ℕ)
+    → (offered_after files terms earlier offer).decision ≡ Admitted finish
+    → finish - offer.service ≡ offer.tick + ((offered_after files terms earlier offer).found.free - offer.tick)
 
 -- ---- one policy and four
 
 -- these terms with the first policy alone
-abbrev pub former_terms : Terms → FormerTerms
-former_terms terms = record {
-  files = terms.files;
+abbrev pub former_terms : List File → Terms → FormerTerms
+former_terms files terms = record {
+  files = files;
   tariff = terms.tariff;
   rules = rules_of (station_for terms) 0;
   retry_after = terms.retry_after;
@@ -173,15 +159,16 @@ in_tiers former = record {
 
 -- the answer to a capture of version 1 is the former one, with the first policy
 abbrev pub SameInVersionOne : Type 0
-SameInVersionOne = (terms : Terms) (input old new : Option (List ℕ)) (outcome : Outcome)
-    → (answers : Answers terms input old new outcome) → answers.read.capture.version ≡ One
-    → (former : FormerOutcome) × FormerAnswers (former_terms terms) input old new former × (outcome ≡ in_tiers former)
+SameInVersionOne = (files : List File) (terms : Terms) (input old new : Option (List ℕ)) (outcome : Outcome)
+    → (answers : Answers files terms input old new outcome) → answers.read.capture.version ≡ One
+    → (former : FormerOutcome) × FormerAnswers (former_terms files terms) input old new former
+    × (outcome ≡ in_tiers former)
 
 -- and each former answer is that to a capture of version 1, whatever the policies of tiers 1 to 3
 abbrev pub FormerAnswersHold : Type 0
-FormerAnswersHold = (terms : Terms) (input old new : Option (List ℕ)) (former : FormerOutcome)
-    → FormerAnswers (former_terms terms) input old new former
-    → (answers : Answers terms input old new (in_tiers former)) × (answers.read.capture.version ≡ One)
+FormerAnswersHold = (files : List File) (terms : Terms) (input old new : Option (List ℕ)) (former : FormerOutcome)
+    → FormerAnswers (former_terms files terms) input old new former
+    → (answers : Answers files terms input old new (in_tiers former)) × (answers.read.capture.version ≡ One)
 
 -- the outcome of the same records in another format
 abbrev pub told_in : Version → Outcome → Outcome
@@ -191,18 +178,23 @@ told_in version outcome =
 -- a capture of version 1 and its upgraded text have the same answers but for their format, whatever the policies of
 -- tiers 1 to 3
 abbrev pub UpgradeKeepsAnswers : Type 0
-UpgradeKeepsAnswers = (terms other : Terms) (text upgraded : List ℕ) (old new : Option (List ℕ)) (outcome : Outcome)
-    → (upgrade : IsUpgrade Two text upgraded) → upgrade.version ≡ One → former_terms terms ≡ former_terms other
-    → (Answers terms (Some text) old new outcome → Answers other (Some upgraded) old new (told_in Two outcome))
-    × (Answers terms (Some upgraded) old new outcome → Answers other (Some text) old new (told_in One outcome))
+UpgradeKeepsAnswers = (files : List File) (terms : Terms) (others : List File) (other : Terms)
+    (text upgraded : List ℕ) (old new : Option (List ℕ)) (outcome : Outcome)
+    → (upgrade : IsUpgrade Two text upgraded) → upgrade.version ≡ One
+    → former_terms files terms ≡ former_terms others other
+    → (Answers files terms (Some text) old new outcome → Answers others other (Some upgraded) old new
+    (told_in Two outcome))
+    × (Answers files terms (Some upgraded) old new outcome → Answers others other (Some text) old new
+    (told_in One outcome))
 
 -- a text of recorded traffic and its upgraded one have the same answers but for their format: so have a capture and the
 -- same traffic in the format that is days long
 abbrev pub UpgradeKeepsReplies : Type 0
-UpgradeKeepsReplies = (terms : Terms) (to : Version) (text upgraded : List ℕ) (old new : Option (List ℕ))
+UpgradeKeepsReplies = (files : List File) (terms : Terms) (to : Version) (text upgraded : List ℕ)
+    (old new : Option (List ℕ))
     (outcome : Outcome) → (upgrade : IsUpgrade to text upgraded)
-    → Answers terms (Some text) old new outcome
-    → Answers terms (Some upgraded) old new (told_in (later to upgrade.version) outcome)
+    → Answers files terms (Some text) old new outcome
+    → Answers files terms (Some upgraded) old new (told_in (later to upgrade.version) outcome)
 
 -- what of an arrival answers depend on: its number, tick and tier, and what it means
 abbrev pub asked_by : Arrival → Origin × Meaning
@@ -212,21 +204,12 @@ asked_by a = (a.origin, a.message.what)
 -- the summary and the table of decisions are the same, whatever the terms: neither where a message lies in a text nor
 -- which record brought it, nor how a number's connections are counted, changes an answer.
 abbrev pub AnswersByMeaning : Type 0
-AnswersByMeaning = (terms : Terms) (start : ℕ) (xs ys : List Arrival) → map asked_by xs ≡ map asked_by ys
-    → (replies_of terms start (handled terms xs) ≡ replies_of terms start (handled terms ys))
-    × (rejected_of (handled terms xs) ≡ rejected_of (handled terms ys))
-    × (summary_of terms xs ≡ summary_of terms ys)
-    × (table terms xs ≡ table terms ys)
-
--- these terms where traffic comes as it was recorded
-abbrev pub as_recorded : Terms → Terms
-as_recorded terms = record {
-  files = terms.files;
-  tariff = terms.tariff;
-  policies = terms.policies;
-  retry_after = terms.retry_after;
-  speed = 100;
-}
+AnswersByMeaning = (files : List File) (terms : Terms) (start : ℕ) (xs ys : List Arrival)
+    → map asked_by xs ≡ map asked_by ys
+    → (replies_of files terms start (handled files terms xs) ≡ replies_of files terms start (handled files terms ys))
+    × (rejected_of (handled files terms xs) ≡ rejected_of (handled files terms ys))
+    × (summary_of files terms xs ≡ summary_of files terms ys)
+    × (table files terms xs ≡ table files terms ys)
 
 -- a message whose tick is divided, for so many percent of the speed
 abbrev pub hurried : ℕ → Arrival → Arrival
@@ -240,10 +223,11 @@ hurried speed a = record {
 -- At a speed the replies, the messages that are turned away, the summary and the table are those of the same messages
 -- in the same order, as if they had been recorded with their ticks divided so.
 abbrev pub SpeedDividesTicks : Type 0
-SpeedDividesTicks = (terms : Terms) (start : ℕ) (arrivals : List Arrival)
-    → (replies_of terms start (handled terms arrivals)
-    ≡ replies_of (as_recorded terms) start (handled (as_recorded terms) (map (hurried terms.speed) arrivals)))
-    × (rejected_of (handled terms arrivals)
-    ≡ rejected_of (handled (as_recorded terms) (map (hurried terms.speed) arrivals)))
-    × (summary_of terms arrivals ≡ summary_of (as_recorded terms) (map (hurried terms.speed) arrivals))
-    × (table terms arrivals ≡ table (as_recorded terms) (map (hurried terms.speed) arrivals))
+SpeedDividesTicks = (files : List File) (terms : Terms) (start : ℕ) (arrivals : List Arrival)
+    → (replies_of files terms start (handled files terms arrivals)
+    ≡ replies_of files (at_speed 100 terms) start
+    (handled files (at_speed 100 terms) (map (hurried terms.speed) arrivals)))
+    × (rejected_of (handled files terms arrivals)
+    ≡ rejected_of (handled files (at_speed 100 terms) (map (hurried terms.speed) arrivals)))
+    × (summary_of files terms arrivals ≡ summary_of files (at_speed 100 terms) (map (hurried terms.speed) arrivals))
+    × (table files terms arrivals ≡ table files (at_speed 100 terms) (map (hurried terms.speed) arrivals))

@@ -10,8 +10,18 @@ use Rattle.captures.specs.Passes.{is_memory, LeavesBy, RecordsRead, StopsAt}
 use Rattle.captures.specs.declared.pass_fault.PassFault.{PassFault}
 use Rattle.captures.specs.declared.pass_fault.PassFault.TheVariants.{Capture, TooMany, Memory, Write as Unwritten}
 use Rattle.arrivals.specs.Reference.{Arrival, AreArrivals}
-use Rattle.reference.specs.Reference.{Terms, ArrivedCapture}
+use Rattle.reference.specs.Reference.{Terms, ArrivedCapture, handled, rejected_of, summary_of}
+use Rattle.reference.specs.declared.summary.Outcome.{Outcome}
 use Rattle.reference.specs.Texts.{Texts, reply_texts}
+use Rattle.paths.specs.declared.file.File.{File}
+
+-- the format of the text, which of its messages were turned away, and what became of all
+abbrev pub outcome_of : Version → List File → Terms → List Arrival → Outcome
+outcome_of version files terms arrivals = record {
+  version = version;
+  rejected = rejected_of (handled files terms arrivals);
+  summary = summary_of files terms arrivals;
+}
 
 -- what a capture's fault has to say; it is never that of a reader which is out of memory, and the other faults say it
 -- of none
@@ -57,8 +67,9 @@ abbrev pub StopsWriting : Texts → Option (List ℕ) → Option (List ℕ) → 
 StopsWriting t input ahead old new f =
     StopsAt input ahead (Appends old new t.first) (λ read. WritesAll t read.version read.start read.records old new) f
 
-abbrev pub Stops : Terms → Option (List ℕ) → Option (List ℕ) → Option (List ℕ) → Option (List ℕ) → CaptureFault → Type 0
-Stops terms input ahead old new f = StopsWriting (reply_texts terms) input ahead old new f
+abbrev pub Stops : List File → Terms → Option (List ℕ) → Option (List ℕ) → Option (List ℕ) → Option (List ℕ)
+    → CaptureFault → Type 0
+Stops files terms input ahead old new f = StopsWriting (reply_texts files terms) input ahead old new f
 
 -- The messages that arrived with these records are more than the limit: the text of those within it was written,
 -- and no last line. The number is that of the first beyond it.
@@ -68,8 +79,8 @@ pub record StopsBeyond (t : Texts) (input old new : Option (List ℕ)) (number :
   pub beyond : number < length taken.arrivals
   pub written : Appends old new (t.so_far taken.read.start (take number taken.arrivals))
 
-abbrev pub StopsFull : Terms → Option (List ℕ) → Option (List ℕ) → Option (List ℕ) → ℕ → Type 0
-StopsFull terms input old new number = StopsBeyond (reply_texts terms) input old new number
+abbrev pub StopsFull : List File → Terms → Option (List ℕ) → Option (List ℕ) → Option (List ℕ) → ℕ → Type 0
+StopsFull files terms input old new number = StopsBeyond (reply_texts files terms) input old new number
 
 -- A prefix was written of the first line and the text of the messages, within the limit, that arrived with these
 -- records.

@@ -12,6 +12,7 @@ use Rattle.admission.specs.Reference.{of_tier, controls_until, tick_from}
 use Rattle.paths.specs.declared.file.File.{File}
 use Rattle.paths.specs.Reference.{file_of, asked, outcome}
 use Rattle.paths.specs.declared.resolution.Outcome.{Outcome as PathOutcome}
+use Rattle.http_requests.specs.Reference.{MessagesOf}
 use Rattle.http_requests.specs.declared.messages.HttpVersion.{HttpVersion}
 use Rattle.http_requests.specs.declared.messages.HttpVersion.TheVariants.{Http10, Http11}
 use Rattle.http_requests.specs.declared.messages.MessageFault.{MessageFault}
@@ -26,48 +27,37 @@ use Rattle.responses.specs.declared.slip.Status.TheVariants.{BadRequest, NotFoun
 use Rattle.responses.specs.declared.slip.Status.TheVariants.{NotImplemented, ServiceUnavailable}
 use Rattle.responses.specs.declared.slip.Given.{Given}
 use Rattle.responses.specs.declared.slip.Given.TheVariants.{Page, Known, Unmodified, Moved, Plain}
-use Rattle.arrivals.specs.Reference.{Arrival, AreArrivals}
+use Rattle.arrivals.specs.Reference.{Arrival, AreArrivals, text_of}
 use Rattle.arrivals.specs.declared.incoming.Origin.{Origin}
 use Rattle.responses.specs.declared.slip.Slip.{Slip}
 use Rattle.responses.specs.Reference.{reply_text, record_text, status_of, statuses}
 use Rattle.reference.specs.declared.summary.Counts.{Counts}
 use Rattle.reference.specs.declared.summary.Summary.{Summary}
 use Rattle.reference.specs.declared.summary.Tally.{Tally}
-use Rattle.captures.specs.declared.version.Version.{Version}
 use Rattle.captures.specs.Reference.{WholeCapture, format_of, used_once}
 use Rattle.reference.specs.declared.summary.Outcome.{Outcome}
 use Rattle.paths.specs.declared.resolution.Outcome.TheVariants as outcomes
 
--- What an operator sets.
+-- What an operator sets: how the engine works, and what is served.
 
--- the graphs of the two floors, the records of a batch, the bytes of the cache, what requests cost, the policies of the
--- tiers, the seconds that a rejected request is told to wait, and the percent of its speed at which traffic comes
-pub record Choice : Type 0 where
+-- how the engine works: the graphs of the two floors, the records of a batch, and the bytes of the cache
+pub record FloorChoice : Type 0 where
   pub front : Layout
   pub back : Layout
   pub batch : ℕ
   pub cache : ℕ
-  pub tariff : Tariff
-  pub policies : List PolicyNumbers
-  pub retry_after : ℕ
-  pub speed : ℕ
 
--- What an answer depends on besides its capture. The graphs of the floors, the batch and the cache are none of it.
+-- what is served besides the files: what requests cost, the policies of the tiers, the seconds that a rejected request
+-- is told to wait, and the percent of its speed at which traffic comes
 pub record Terms : Type 0 where
-  pub files : List File
   pub tariff : Tariff
   pub policies : List PolicyNumbers
   pub retry_after : ℕ
   pub speed : ℕ
 
-abbrev pub terms_of : List File → Choice → Terms
-terms_of files c = record {
-  files = files;
-  tariff = c.tariff;
-  policies = c.policies;
-  retry_after = c.retry_after;
-  speed = c.speed;
-}
+pub record Choice : Type 0 where
+  pub floors : FloorChoice
+  pub served : Terms
 
 -- the tick that a message from there counts with: traffic that comes faster has its ticks divided so, rounded down
 abbrev pub tick_in : Terms → Origin → ℕ
@@ -133,9 +123,9 @@ persistence_of (Bad fault) = Close
 
 -- how a message is answered: a request that is turned away may come again in n seconds; each other message is
 -- answered
-abbrev pub given : {X : Type 0} → Terms → Bool → Meaning → Given X
-given terms true what = Plain (ServiceUnavailable terms.retry_after)
-given terms false what = answer terms.files what
+abbrev pub given : {X : Type 0} → List File → Terms → Bool → Meaning → Given X
+given files terms true what = Plain (ServiceUnavailable terms.retry_after)
+given files terms false what = answer files what
 
 -- Which messages are offered to the admission control, and which of them it turns away.
 
@@ -150,9 +140,9 @@ is_unmodified_file files since (outcomes.File file) = is_unmodified since (file_
 is_unmodified_file files since other = false
 
 -- what a request with this target and this outcome costs
-abbrev pub charge_of : Terms → List ℕ → Bool → Option ℕ → PathOutcome → Charge
-charge_of terms target head since o = charge terms.tariff target o head (is_unmodified_file terms.files since o)
-    (length_given terms.files o)
+abbrev pub charge_of : List File → Terms → List ℕ → Bool → Option ℕ → PathOutcome → Charge
+charge_of files terms target head since o = charge terms.tariff target o head (is_unmodified_file files since o)
+    (length_given files o)
 
 -- the offer of a request that came from there and costs this
 abbrev pub offer_of : Terms → Origin → Charge → Offer
@@ -164,23 +154,23 @@ offer_of terms origin cost = record {
 }
 
 -- the offer of a message that came from there: none where it breaks a rule, and so is no request
-abbrev pub offer_at : Terms → Origin → Meaning → List Offer
-offer_at terms origin (Request method target version closing since) = offer_of terms origin
-    (charge_of terms target (is_head method) since (outcome terms.files (asked method target))) ∷ []
-offer_at terms origin (Bad fault) = []
+abbrev pub offer_at : List File → Terms → Origin → Meaning → List Offer
+offer_at files terms origin (Request method target version closing since) = offer_of terms origin
+    (charge_of files terms target (is_head method) since (outcome files (asked method target))) ∷ []
+offer_at files terms origin (Bad fault) = []
 
 -- the offers of these arrivals, in their order
-unfoldable pub offers_of : Terms → List Arrival → List Offer
-offers_of terms arrivals = flat_map (λ a. offer_at terms a.origin a.message.what) arrivals
+unfoldable pub offers_of : List File → Terms → List Arrival → List Offer
+offers_of files terms arrivals = flat_map (λ a. offer_at files terms a.origin a.message.what) arrivals
 
 -- whether an offer that comes after these is turned away
 unfoldable pub rejects : Station → List Offer → Offer → Bool
 rejects station offers offer = is_rejected (decide station (decided station offers) offer)
 
 -- a message is turned away where the offer that it makes after those of the earlier ones is
-abbrev pub is_turned_away : Terms → List Arrival → Arrival → Bool
-is_turned_away terms earlier a = list_any (rejects (station_for terms) (offers_of terms earlier))
-    (offer_at terms a.origin a.message.what)
+abbrev pub is_turned_away : List File → Terms → List Arrival → Arrival → Bool
+is_turned_away files terms earlier a = list_any (rejects (station_for terms) (offers_of files terms earlier))
+    (offer_at files terms a.origin a.message.what)
 
 -- a message, its number, and whether it was turned away
 pub record Handled : Type 0 where
@@ -188,42 +178,42 @@ pub record Handled : Type 0 where
   pub arrival : Arrival
   pub turned_away : Bool
 
-abbrev pub handled_next : Terms → List Arrival → Arrival → Handled
-handled_next terms earlier a = record {
+abbrev pub handled_next : List File → Terms → List Arrival → Arrival → Handled
+handled_next files terms earlier a = record {
   number = length earlier;
   arrival = a;
-  turned_away = is_turned_away terms earlier a;
+  turned_away = is_turned_away files terms earlier a;
 }
 
 -- these messages after the earlier ones, each in turn, as those before it decide
-unfoldable pub handled_after : Terms → List Arrival → List Arrival → List Handled
-handled_after terms earlier [] = []
-handled_after terms earlier (a ∷ arrivals) = handled_next terms earlier a
-    ∷ handled_after terms (earlier ++ a ∷ []) arrivals
+unfoldable pub handled_after : List File → Terms → List Arrival → List Arrival → List Handled
+handled_after files terms earlier [] = []
+handled_after files terms earlier (a ∷ arrivals) = handled_next files terms earlier a
+    ∷ handled_after files terms (earlier ++ a ∷ []) arrivals
 
-abbrev pub handled : Terms → List Arrival → List Handled
-handled terms arrivals = handled_after terms [] arrivals
+abbrev pub handled : List File → Terms → List Arrival → List Handled
+handled files terms arrivals = handled_after files terms [] arrivals
 
 -- The replies to the messages of a capture, and their text.
 
 -- the slip of a message, of a capture that begins at `start` (seconds since 1970-01-01); a tick is a microsecond
-abbrev pub slip_of : {X : Type 0} → Terms → ℕ → Handled → Slip X
-slip_of terms start h = record {
+abbrev pub slip_of : {X : Type 0} → List File → Terms → ℕ → Handled → Slip X
+slip_of files terms start h = record {
   number = h.number;
   conn = h.arrival.origin.conn;
   date = start + tick_in terms h.arrival.origin / 1000000;
   head = answers_head h.arrival.message.what;
   link = persistence_of h.arrival.message.what;
-  what = given terms h.turned_away h.arrival.message.what;
+  what = given files terms h.turned_away h.arrival.message.what;
 }
 
 -- the reply to a message: its number, its connection, and the reply's text
-unfoldable pub reply_of : Terms → ℕ → Handled → ℕ × ℕ × List ℕ
-reply_of terms start h =
-    (h.number, h.arrival.origin.conn, reply_text terms.files (slip_of {X = Unit {0}} terms start h))
+unfoldable pub reply_of : List File → Terms → ℕ → Handled → ℕ × ℕ × List ℕ
+reply_of files terms start h =
+    (h.number, h.arrival.origin.conn, reply_text files (slip_of {X = Unit {0}} files terms start h))
 
-abbrev pub replies_of : Terms → ℕ → List Handled → List (ℕ × ℕ × List ℕ)
-replies_of terms start messages = map (reply_of terms start) messages
+abbrev pub replies_of : List File → Terms → ℕ → List Handled → List (ℕ × ℕ × List ℕ)
+replies_of files terms start messages = map (reply_of files terms start) messages
 
 -- the first line, the replies' records, and the last line
 abbrev pub first_line : List ℕ
@@ -247,15 +237,15 @@ breaks_a_rule (Bad fault) = true
 breaks_a_rule (Request method target version closing since) = false
 
 -- the status that a message is answered with
-abbrev pub status_for : Terms → Handled → ℕ
-status_for terms h = status_of (given {X = Unit {0}} terms h.turned_away h.arrival.message.what)
+abbrev pub status_for : List File → Terms → Handled → ℕ
+status_for files terms h = status_of (given {X = Unit {0}} files terms h.turned_away h.arrival.message.what)
 
-abbrev pub count_of : Terms → List Handled → ℕ → ℕ
-count_of terms messages status = count_by (λ h. status_for terms h == status) messages
+abbrev pub count_of : List File → Terms → List Handled → ℕ → ℕ
+count_of files terms messages status = count_by (λ h. status_for files terms h == status) messages
 
 -- how many messages were answered with each status
-abbrev pub counts_of : Terms → List Handled → Counts
-counts_of terms messages = record { by_status = map (count_of terms messages) statuses }
+abbrev pub counts_of : List File → Terms → List Handled → Counts
+counts_of files terms messages = record { by_status = map (count_of files terms messages) statuses }
 
 abbrev pub bypassed_of : List Arrival → ℕ
 bypassed_of arrivals = count_by (λ a. breaks_a_rule a.message.what) arrivals
@@ -285,12 +275,12 @@ abbrev pub tallies_of : Station → List Offer → List Tally
 tallies_of station offers = map (tally_of station offers) (0 ∷ 1 ∷ 2 ∷ 3 ∷ [])
 
 -- what became of these arrivals
-abbrev pub summary_of : Terms → List Arrival → Summary
-summary_of terms arrivals = record {
-  counts = counts_of terms (handled terms arrivals);
+abbrev pub summary_of : List File → Terms → List Arrival → Summary
+summary_of files terms arrivals = record {
+  counts = counts_of files terms (handled files terms arrivals);
   bypassed = bypassed_of arrivals;
-  samples = samples_of (station_for terms) (offers_of terms arrivals);
-  tiers = tallies_of (station_for terms) (offers_of terms arrivals);
+  samples = samples_of (station_for terms) (offers_of files terms arrivals);
+  tiers = tallies_of (station_for terms) (offers_of files terms arrivals);
 }
 
 -- What a replay comes to: its outcome, or a fault, and what it has written.
@@ -303,17 +293,27 @@ pub record ArrivedCapture (input : Option (List ℕ)) : Type 0 where
   pub are : AreArrivals (used_once capture.records) arrivals
   pub few : length arrivals ≤ (format_of capture.version).max_messages
 
--- the format of the text, which of its messages were turned away, and what became of all
-abbrev pub outcome_of : Version → Terms → List Arrival → Outcome
-outcome_of version terms arrivals = record {
-  version = version;
-  rejected = rejected_of (handled terms arrivals);
-  summary = summary_of terms arrivals;
-}
+-- the replies text of messages that one thread handles, one after another
+abbrev pub one_thread : List File → Terms → ℕ → List Arrival → List ℕ
+one_thread files terms start arrivals = replies_text (replies_of files terms start (handled files terms arrivals))
 
--- The answer of the reference server to a capture: each message was answered, in their order, and this is what became
--- of them.
-pub record Answers (terms : Terms) (input old new : Option (List ℕ)) (outcome : Outcome) : Type 0 where
+-- the messages that were handled on a connection, in this order
+abbrev pub handled_on : ℕ → List Handled → List Handled
+handled_on c messages = filter (λ h. h.arrival.connection == c) messages
+
+-- The answer of the reference server to a capture.
+pub record Answers (files : List File) (terms : Terms) (input old new : Option (List ℕ))
+    (outcome : Outcome) : Type 0 where
+  -- the captured requests, in arrival order
   pub read : ArrivedCapture input
-  pub written : Appends old new (replies_text (replies_of terms read.capture.start (handled terms read.arrivals)))
-  pub outcome_is : outcome ≡ outcome_of read.capture.version terms read.arrivals
+  -- exactly the replies text of one thread that handles them one after another was written
+  pub written_exactly : Appends old new (one_thread files terms read.capture.start read.arrivals)
+  -- exactly the rejected requests are listed
+  pub listed_exactly : outcome.rejected ≡ rejected_of (handled files terms read.arrivals)
+  -- what was handled on each connection is, in this order, what its text asks for
+  pub in_request_order : (c : ℕ) → MessagesOf (text_of c (used_once read.capture.records))
+      (map (λ h. h.arrival.message) (handled_on c (handled files terms read.arrivals)))
+  -- the counts, the samples, and each tier's tally
+  pub figures : outcome.summary ≡ summary_of files terms read.arrivals
+  -- the format of the text
+  pub format : outcome.version ≡ read.capture.version

@@ -7,6 +7,7 @@ use Rattle.arrivals.specs.Reference.{Arrival}
 use Rattle.reference.specs.Reference.{Terms, handled, handled_after, first_line, last_line, replies_of}
 use Rattle.reference.specs.Reference.{text_before_stop}
 use Rattle.reference.specs.Reference.{replies_text}
+use Rattle.paths.specs.declared.file.File.{File}
 
 -- The texts that are written of a capture, by its start and its arrivals: the first line; what stands after these
 -- messages, while others may still come; what is written of messages that come after the earlier ones; what is written
@@ -30,14 +31,14 @@ pub record AreTexts (t : Texts) : Type 0 where
       → t.whole start arrivals ≡ t.so_far start arrivals ++ t.last (length arrivals)
 
 -- the replies
-abbrev pub reply_texts : Terms → Texts
-reply_texts terms = record {
+abbrev pub reply_texts : List File → Terms → Texts
+reply_texts files terms = record {
   first = first_line;
-  so_far = λ start arrivals. text_before_stop (replies_of terms start (handled terms arrivals));
+  so_far = λ start arrivals. text_before_stop (replies_of files terms start (handled files terms arrivals));
   after = λ start earlier arrivals.
-      flat_map record_text (replies_of terms start (handled_after terms earlier arrivals));
+      flat_map record_text (replies_of files terms start (handled_after files terms earlier arrivals));
   last = last_line;
-  whole = λ start arrivals. replies_text (replies_of terms start (handled terms arrivals));
+  whole = λ start arrivals. replies_text (replies_of files terms start (handled files terms arrivals));
 }
 
 -- the text of messages that come after the earlier ones was written, and a prefix of it was

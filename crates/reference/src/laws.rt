@@ -1,16 +1,11 @@
 //! Laws of the definitions that the engines' contracts cite. Each function is there for its clause alone.
 
 ghost use Rattle.reference.specs.Laws.{AnsweredNotFaulty, AnsweredNotFull, DueBegin, FaultyNotFull, OneFault, OneLimit};
-ghost use Rattle.reference.specs.Laws.{FloorsChangeNothing, FormerAnswersHold, HandledBegin, OneAnswer};
+ghost use Rattle.reference.specs.Laws.{FormerAnswersHold, HandledBegin, OneAnswer};
 ghost use Rattle.reference.specs.Laws.{SpeedDividesTicks};
 ghost use Rattle.reference.specs.Laws.{AnswersByMeaning, SameInVersionOne, UpgradeKeepsReplies};
 ghost use Rattle.reference.specs.Laws.{RepliesInRequestOrder, RowsAgree, StartsOnceFree, TariffsChangeNoReply};
 ghost use Rattle.reference.specs.Laws.{UpgradeKeepsAnswers};
-
-/// The graphs of the floors, the records of a batch and the bytes of the cache change no answer.
-pub fn floors_change_nothing()
-    ensures { FloorsChangeNothing }
-{}
 
 /// Neither a table nor a route changes a reply: what a request costs decides who is turned away, and no more.
 pub fn tariffs_change_no_reply()
@@ -22,7 +17,7 @@ pub fn one_answer()
     ensures { OneAnswer }
 {}
 
-/// Each connection's replies stand in its request order.
+/// Where numbers are used once, a number's replies are those to its connection's messages, in their order.
 pub fn replies_in_request_order()
     ensures { RepliesInRequestOrder }
 {}

@@ -3,7 +3,8 @@
 ghost use Rattle.std.specs.Prelude.{◌≡◌, ◌≤◌, ◌*◌, ◌/◌, [], ℕ, Some, None, IfOk, IfErr};
 ghost use Rattle.stage_graph.specs.After.{last_cut};
 ghost use Rattle.reference.specs.Reference.{Choice};
-ghost use Rattle.reference.specs.Choices.{IsChoice, settings_fault, front_steps, back_steps, max_batch};
+ghost use Rattle.reference.specs.Choices.{IsChoice, choice_of, with_tariff, at_speed, settings_fault};
+ghost use Rattle.reference.specs.Choices.{front_steps, back_steps, max_batch};
 ghost use Rattle.reference.specs.Choices.{max_cache, max_retry_after, min_speed, max_speed};
 ghost use Rattle.captures.specs.Reference.{max_tick};
 
@@ -70,25 +71,23 @@ impl Model for Settings {
     ghost Value = { Choice };
 
     ghost view = { λ s. record {
-      front = s.front;
-      back = s.back;
-      batch = s.batch;
-      cache = s.cache;
-      tariff = s.tariff;
-      policies = s.policies;
-      retry_after = s.retry_after;
-      speed = s.speed;
+      floors = record { front = s.front; back = s.back; batch = s.batch; cache = s.cache };
+      served = record {
+        tariff = s.tariff;
+        policies = s.policies;
+        retry_after = s.retry_after;
+        speed = s.speed;
+      };
     } };
 
     ghost invariant = { λ s. IsChoice (record {
-      front = s.front;
-      back = s.back;
-      batch = s.batch;
-      cache = s.cache;
-      tariff = s.tariff;
-      policies = s.policies;
-      retry_after = s.retry_after;
-      speed = s.speed;
+      floors = record { front = s.front; back = s.back; batch = s.batch; cache = s.cache };
+      served = record {
+        tariff = s.tariff;
+        policies = s.policies;
+        retry_after = s.retry_after;
+        speed = s.speed;
+      };
     }) };
 }
 
@@ -103,27 +102,8 @@ impl Settings {
         policies: [Policy; 4],
         retry_after: u64,
     ) -> Settings
-        requires { IsChoice (record {
-          front = front;
-          back = back;
-          batch = batch;
-          cache = cache;
-          tariff = record { costs = costs; routes = [] };
-          policies = policies;
-          retry_after = retry_after;
-          speed = 100;
-        }) }
-        ensures { result
-            ≡ record {
-              front = front;
-              back = back;
-              batch = batch;
-              cache = cache;
-              tariff = record { costs = costs; routes = [] };
-              policies = policies;
-              retry_after = retry_after;
-              speed = 100;
-            } }
+        requires { IsChoice (choice_of front back batch cache costs policies retry_after) }
+        ensures { result ≡ choice_of front back batch cache costs policies retry_after }
     {
         Settings {
             front,
@@ -141,14 +121,8 @@ impl Settings {
     pub fn with_routes(self, routes: Routes) -> Settings
         ensures { result
             ≡ record {
-              front = self.front;
-              back = self.back;
-              batch = self.batch;
-              cache = self.cache;
-              tariff = record { costs = self.tariff.costs; routes = routes };
-              policies = self.policies;
-              retry_after = self.retry_after;
-              speed = self.speed;
+              floors = self.floors;
+              served = with_tariff (record { costs = self.served.tariff.costs; routes = routes }) self.served;
             } }
     {
         let costs = self.tariff.costs();
@@ -184,28 +158,10 @@ impl Settings {
         policies: [Policy; 4],
         retry_after: u64,
     ) -> Result<Settings, SettingsFault>
-        ensures ok { IfOk result (λ s. (s
-            ≡ record {
-              front = front;
-              back = back;
-              batch = batch;
-              cache = cache;
-              tariff = record { costs = costs; routes = [] };
-              policies = policies;
-              retry_after = retry_after;
-              speed = 100;
-            }) × (settings_fault s ≡ None)) }
+        ensures ok { IfOk result (λ s. (s ≡ choice_of front back batch cache costs policies retry_after)
+            × (settings_fault s ≡ None)) }
         ensures fault { IfErr result
-            (λ f. settings_fault (record {
-              front = front;
-              back = back;
-              batch = batch;
-              cache = cache;
-              tariff = record { costs = costs; routes = [] };
-              policies = policies;
-              retry_after = retry_after;
-              speed = 100;
-            }) ≡ Some f) }
+            (λ f. settings_fault (choice_of front back batch cache costs policies retry_after) ≡ Some f) }
     {
         if front.steps() != FRONT_STEPS {
             return Err(SettingsFault::Front);
@@ -227,7 +183,7 @@ impl Settings {
 
     /// The stages of the front floor.
     pub fn front(&self) -> &Plan
-        ensures value { result.now ≡ self.now.front }
+        ensures value { result.now ≡ self.now.floors.front }
         ensures steps { last_cut result.now ≡ front_steps }
     {
         &self.front
@@ -235,7 +191,7 @@ impl Settings {
 
     /// The stages of the back floor.
     pub fn back(&self) -> &Plan
-        ensures value { result.now ≡ self.now.back }
+        ensures value { result.now ≡ self.now.floors.back }
         ensures steps { last_cut result.now ≡ back_steps }
     {
         &self.back
@@ -243,7 +199,7 @@ impl Settings {
 
     /// How many pieces a batch has at most: 1 to 65,536.
     pub fn batch(&self) -> usize
-        ensures value { result ≡ self.now.batch }
+        ensures value { result ≡ self.now.floors.batch }
         ensures range { (1 ≤ result) × (result ≤ max_batch) }
     {
         self.batch
@@ -251,7 +207,7 @@ impl Settings {
 
     /// The most bytes of pages that are kept: up to 1,073,741,824.
     pub fn cache(&self) -> usize
-        ensures value { result ≡ self.now.cache }
+        ensures value { result ≡ self.now.floors.cache }
         ensures range { result ≤ max_cache }
     {
         self.cache
@@ -259,21 +215,21 @@ impl Settings {
 
     /// What requests cost.
     pub fn tariff(&self) -> &Tariff
-        ensures { result.now ≡ self.now.tariff }
+        ensures { result.now ≡ self.now.served.tariff }
     {
         &self.tariff
     }
 
     /// The policies of the tiers 0 to 3.
     pub fn policies(&self) -> [Policy; 4]
-        ensures { result ≡ self.now.policies }
+        ensures { result ≡ self.now.served.policies }
     {
         self.policies
     }
 
     /// How many seconds a rejected request is told to wait: 0 to 86,400.
     pub fn retry_after(&self) -> u64
-        ensures value { result ≡ self.now.retry_after }
+        ensures value { result ≡ self.now.served.retry_after }
         ensures range { result ≤ max_retry_after }
     {
         self.retry_after
@@ -283,16 +239,7 @@ impl Settings {
     /// 10,000.
     pub fn with_speed(self, speed: u64) -> Settings
         requires { (min_speed ≤ speed) × (speed ≤ max_speed) }
-        ensures { result ≡ record {
-          front = self.front;
-          back = self.back;
-          batch = self.batch;
-          cache = self.cache;
-          tariff = self.tariff;
-          policies = self.policies;
-          retry_after = self.retry_after;
-          speed = speed;
-        } }
+        ensures { result ≡ record { floors = self.floors; served = at_speed speed self.served } }
     {
         Settings { speed, ..self }
     }
@@ -300,10 +247,10 @@ impl Settings {
     /// The tick that counts for one of a capture (0 to 10^15), at this speed: divided so, and rounded down.
     pub fn tick(&self, recorded: u64) -> u64
         requires { recorded ≤ max_tick }
-        ensures value { result ≡ recorded * 100 / self.now.speed }
+        ensures value { result ≡ recorded * 100 / self.now.served.speed }
         ensures range { result ≤ recorded }
         ensures rises { (earlier : ℕ) → earlier ≤ recorded
-            → earlier * 100 / self.now.speed ≤ result }
+            → earlier * 100 / self.now.served.speed ≤ result }
     {
         if self.speed == MIN_SPEED {
             return recorded;

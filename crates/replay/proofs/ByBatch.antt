@@ -32,12 +32,13 @@ use Rattle.replay.specs.Serving.{Serves}
 use Rattle.replay.specs.Waiting.{incoming_of, InTime, connections_of, Waiting, ComeNext, Upcoming}
 use Rattle.arrivals.specs.Gathering.{Adds}
 use Rattle.arrivals.specs.declared.connections.Connection.{Connection}
-use Rattle.replay.specs.declared.desk.Desk.{Desk}
+use Rattle.replay.specs.declared.decider.Decider.{Decider}
 use Rattle.arrivals.specs.declared.incoming.Incoming.{Incoming}
 use Rattle.arrivals.specs.declared.incoming.Origin.{Origin}
 use Rattle.arrivals.specs.declared.incoming.PieceMessages.{PieceMessages}
 use Rattle.arrivals.proofs.Merging.{stand_batch}
 use Rattle.replay.proofs.ByRecord.{now_below, tick_at, ticks_before, ticks_before_le, ticks_once}
+use Rattle.paths.specs.declared.file.File.{File}
 
 -- ---- what the engine keeps
 
@@ -59,20 +60,20 @@ idle_still old new conn x own others idle c = elim (cases_eq c conn) [
   | inr apart ↦ rw (others c apart) (idle c)
 ]
 
-serves_same : (terms : Terms) (records : List Record) (arrivals : List Arrival) (old new : List SeatState) (desk : Desk) → ((c : ℕ) → (seat_at new c).connection ≡ (seat_at old c).connection)
-    → Serves terms records arrivals (connections_of old) desk → Serves terms records arrivals (connections_of new) desk
-serves_same terms records arrivals old new desk same serves = record {
+serves_same : (files : List File) (terms : Terms) (records : List Record) (arrivals : List Arrival) (old new : List SeatState) (decider : Decider) → ((c : ℕ) → (seat_at new c).connection ≡ (seat_at old c).connection)
+    → Serves files terms records arrivals (connections_of old) decider → Serves files terms records arrivals (connections_of new) decider
+serves_same files terms records arrivals old new decider same serves = record {
   reads = record { each = λ c low. rw (connection_of new c, same c, ← connection_of old c) (serves.reads.each c low) };
   arrived = serves.arrived;
   stands = serves.stands;
 }
 
 -- a batch was read
-pub come_next : (terms : Terms) (text ahead : Option (List ℕ)) (start : ℕ) (records rs : List Record) (arrivals : List Arrival) (old new : List SeatState) (origins : List Origin) (desk : Desk) (p : Progress) (v : Version)
-    → Serves terms records arrivals (connections_of old) desk → Waiting [] old → Adds rs old new → origins ≡ origins_after records rs → ReaderAfter v text start (records ++ rs) p ahead → start ≡ desk.start
-    → ComeNext terms records rs arrivals new origins desk
-come_next terms text ahead start records rs arrivals old new origins desk p v serves idle adds from fits begun = record {
-  serves = serves_same terms records arrivals old new desk (λ c. ap (λ (q : SeatState). q.connection) (adds c)) serves;
+pub come_next : (files : List File) (terms : Terms) (text ahead : Option (List ℕ)) (start : ℕ) (records rs : List Record) (arrivals : List Arrival) (old new : List SeatState) (origins : List Origin) (decider : Decider) (p : Progress) (v : Version)
+    → Serves files terms records arrivals (connections_of old) decider → Waiting [] old → Adds rs old new → origins ≡ origins_after records rs → ReaderAfter v text start (records ++ rs) p ahead → start ≡ decider.start
+    → ComeNext files terms records rs arrivals new origins decider
+come_next files terms text ahead start records rs arrivals old new origins decider p v serves idle adds from fits begun = record {
+  serves = serves_same files terms records arrivals old new decider (λ c. ap (λ (q : SeatState). q.connection) (adds c)) serves;
   waiting = λ c. (
     ap (λ (q : SeatState). q.waiting) (adds c) ∙ ap (λ xs. xs ++ sent_to c rs) (idle c).0,
     ap (λ (q : SeatState). q.lists) (adds c) ∙ (idle c).1,
@@ -109,16 +110,16 @@ sent_none c (End tick conn ∷ rs) high low = elim (eqb_tells conn c) [
 sent_none c (Tier conn tier ∷ rs) high low = sent_none c rs high (All-tail IsLow (Tier conn tier) rs low)
 
 -- the records that come next have numbers of 16 bits, and so have those before them
-next_low : (terms : Terms) (records rs : List Record) (arrivals : List Arrival) (places : List SeatState) (origins : List Origin) (desk : Desk) → ComeNext terms records rs arrivals places origins desk → All IsLow (records ++ rs)
-next_low terms records rs arrivals places origins desk next = all_low next.version (records ++ rs) next.rules.each
+next_low : (files : List File) (terms : Terms) (records rs : List Record) (arrivals : List Arrival) (places : List SeatState) (origins : List Origin) (decider : Decider) → ComeNext files terms records rs arrivals places origins decider → All IsLow (records ++ rs)
+next_low files terms records rs arrivals places origins decider next = all_low next.version (records ++ rs) next.rules.each
 
 rest_low : (records rs : List Record) → All IsLow (records ++ rs) → All IsLow rs
 rest_low [] rs low = low
 rest_low (r ∷ records) rs low = rest_low records rs (All-tail IsLow r (records ++ rs) low)
 
-pub all_ready : (terms : Terms) (records rs : List Record) (arrivals : List Arrival) (places : List SeatState) (origins : List Origin) (desk : Desk)
-    → ComeNext terms records rs arrivals places origins desk → All IsReady places
-all_ready terms records rs arrivals places origins desk next = λ k d lt.
+pub all_ready : (files : List File) (terms : Terms) (records rs : List Record) (arrivals : List Arrival) (places : List SeatState) (origins : List Origin) (decider : Decider)
+    → ComeNext files terms records rs arrivals places origins decider → All IsReady places
+all_ready files terms records rs arrivals places origins decider next = λ k d lt.
     let same : seat_at places k ≡ get_or places k d = get_or_default places k _ d lt in
     let more = total_below k rs in
     let sum = sum_by-append size_of records rs in
@@ -127,7 +128,7 @@ all_ready terms records rs arrivals places origins desk next = λ k d lt.
     subst IsReady same (record { can = λ some. rw at (can k (omega (arith, more, sum, small)) (subst (λ (w : List Sent). 0 < length w) at some)); fresh = (next.waiting k).1 })
   where
     low : All IsLow rs
-    low = rest_low records rs (next_low terms records rs arrivals places origins desk next)
+    low = rest_low records rs (next_low files terms records rs arrivals places origins decider next)
 
     can : (k : ℕ) → sizes_of records + total (sent_to k rs) ≤ longest_text → 0 < length (sent_to k rs) → CanRead (seat_at places k).connection (sent_to k rs)
     can k room some = elim (cases_lt k 65536) [
@@ -183,9 +184,9 @@ pieces_count c earlier (End tick conn ∷ rs) = go (conn == c) ∙ pieces_count 
     go false = refl
 pieces_count c earlier (Tier conn tier ∷ rs) = pieces_count c (earlier ++ Tier conn tier ∷ []) rs
 
-pub lists_count : (terms : Terms) (records rs : List Record) (arrivals : List Arrival) (places cut : List SeatState) (origins : List Origin) (desk : Desk)
-    → ComeNext terms records rs arrivals places origins desk → AllZip IsCutOf places cut → (c : ℕ) → length (seat_at cut c).lists ≡ count_to c origins
-lists_count terms records rs arrivals places cut origins desk next cuts c =
+pub lists_count : (files : List File) (terms : Terms) (records rs : List Record) (arrivals : List Arrival) (places cut : List SeatState) (origins : List Origin) (decider : Decider)
+    → ComeNext files terms records rs arrivals places origins decider → AllZip IsCutOf places cut → (c : ℕ) → length (seat_at cut c).lists ≡ count_to c origins
+lists_count files terms records rs arrivals places cut origins decider next cuts c =
     let own = cut_at places cut c cuts in
     reads_count _ _ (seat_at places c).waiting (seat_at cut c).lists own.reads ∙ ap pieces_in (next.waiting c).0 ∙ pieces_count c records rs ∙ ap (count_to c) (sym next.origins_are)
 
@@ -320,24 +321,24 @@ in_time v start records arrivals (a ∷ more) rules arrived = (
 
 -- ---- what a batch brings
 
-pub record Brings (terms : Terms) (records rs : List Record) (arrivals : List Arrival) (desk : Desk) (after : List SeatState) (messages : List Incoming) : Type 0 where
+pub record Brings (files : List File) (terms : Terms) (records rs : List Record) (arrivals : List Arrival) (decider : Decider) (after : List SeatState) (messages : List Incoming) : Type 0 where
   pub more : List Arrival
   pub reads : HaveRead (records ++ rs) (arrivals ++ more) (connections_of after)
   pub arrived : AreArrivals (used_once (records ++ rs)) (arrivals ++ more)
-  pub up : Upcoming terms arrivals more messages desk
+  pub up : Upcoming files terms arrivals more messages decider
 
-pub brings : (terms : Terms) (records rs : List Record) (arrivals : List Arrival) (places cut after : List SeatState) (origins : List Origin) (pieces : List PieceMessages) (messages : List Incoming) (desk : Desk)
-    → ComeNext terms records rs arrivals places origins desk → AllZip IsCutOf places cut → map (λ p. p.origin) pieces ≡ origins
+pub brings : (files : List File) (terms : Terms) (records rs : List Record) (arrivals : List Arrival) (places cut after : List SeatState) (origins : List Origin) (pieces : List PieceMessages) (messages : List Incoming) (decider : Decider)
+    → ComeNext files terms records rs arrivals places origins decider → AllZip IsCutOf places cut → map (λ p. p.origin) pieces ≡ origins
     → ((c : ℕ) → (seat_at cut c).lists ≡ lists_to c origins (map (λ p. p.messages) pieces)) → ((c : ℕ) → seat_at after c ≡ with_lists [] (seat_at cut c))
-    → messages ≡ flat_map incoming_from pieces → Brings terms records rs arrivals desk after messages
-brings terms records rs arrivals places cut after origins pieces messages desk next cuts from found taken are = record {
+    → messages ≡ flat_map incoming_from pieces → Brings files terms records rs arrivals decider after messages
+brings files terms records rs arrivals places cut after origins pieces messages decider next cuts from found taken are = record {
   more = more;
   reads = record { each = λ c low. rw (connection_of after c, ap (λ (q : SeatState). q.connection) (taken c)) (stand.each c low) };
   arrived = stand.arrived;
   up = record {
     stands = next.serves.stands;
     are = incoming_are records rs pieces (from ∙ next.origins_are) ∙ sym are;
-    timely = in_time next.version desk.start (records ++ rs) arrivals more next.rules stand.arrived;
+    timely = in_time next.version decider.start (records ++ rs) arrivals more next.rules stand.arrived;
   };
 }
   where
@@ -354,7 +355,7 @@ brings terms records rs arrivals places cut after origins pieces messages desk n
     reading c = rw ((next.waiting c).0, found c, next.origins_are) at (cut_at places cut c cuts).reads
 
     stand : Stand (records ++ rs) (arrivals ++ more) (λ c. (seat_at cut c).connection)
-    stand = stand_batch rs lists records arrivals (λ c. (seat_at places c).connection) (λ c. (seat_at cut c).connection) (next_low terms records rs arrivals places origins desk next) count
+    stand = stand_batch rs lists records arrivals (λ c. (seat_at places c).connection) (λ c. (seat_at cut c).connection) (next_low files terms records rs arrivals places origins decider next) count
         (record { each = λ c low. rw (← connection_of places c) (next.serves.reads.each c low); arrived = next.serves.arrived }) reading
 
 -- no seat is taken yet

@@ -28,15 +28,17 @@ use Rattle.arrivals.specs.Connections.{text_now, messages_now, arrivals_with}
 use Rattle.arrivals.specs.Batches.{Reads, Stand, origin_now}
 use Rattle.http_requests.specs.declared.messages.Message.{Message}
 use Rattle.arrivals.specs.declared.incoming.Origin.{Origin}
-use Rattle.replay.specs.declared.desk.Desk.{Desk}
+use Rattle.replay.specs.declared.decider.Decider.{Decider}
+use Rattle.reference.proofs.InOrder.{answered}
 use Rattle.reference.specs.declared.summary.Outcome.{Outcome}
 use Rattle.arrivals.specs.declared.connections.Connection.{Connection}
 use Rattle.arrivals.specs.declared.connections.Connection.TheVariants.{Silent}
 use Rattle.captures.specs.declared.pass_fault.PassFault.{PassFault}
 use Rattle.captures.specs.declared.pass_fault.PassFault.TheVariants as faults
-use Rattle.reference.specs.Reference.{Terms, handled, replies_of, first_line, last_line, text_before_stop, summary_of, outcome_of, Answers}
+use Rattle.reference.specs.Reference.{Terms, handled, replies_of, first_line, last_line, text_before_stop, summary_of, Answers}
+use Rattle.reference.specs.Outcomes.{outcome_of}
 use Rattle.arrivals.specs.Reference.{Arrival, AreArrivals, bytes_to, text_of}
-use Rattle.replay.specs.Serving.{DeskAfter, AreBy, IsLater, Serves, Written, ServesFull, ServesInPart, WritesMore, WritesFull, WritesInPart, WritesWhole}
+use Rattle.replay.specs.Serving.{DeciderAfter, AreBy, IsLater, Serves, Written, ServesFull, ServesInPart, WritesMore, WritesFull, WritesInPart, WritesWhole}
 use Rattle.reference.specs.Texts.{Texts, AreTexts, Wrote, WroteInPart, reply_texts}
 use Rattle.devices.specs.Reference.{WhereKnown}
 use Rattle.reference.specs.Outcomes.{IfTooMany, IfCutShort, IsOwn, IsCutOff, StopsBeyond, StopsFull, StopsWriting, Stops, Taken, Leaves}
@@ -48,6 +50,7 @@ use Rattle.replay.proofs.Writing.{replies_laws}
 use Rattle.replay.proofs.Texts.{wrote_none, text_begun, text_wrote, text_part, text_ended, text_ended_part}
 use Rattle.replay.proofs.Judging.{answered_is}
 use Rattle.reference.proofs.OneAnswer.{same_outcome}
+use Rattle.paths.specs.declared.file.File.{File}
 
 -- ---- the room of a connection
 
@@ -82,9 +85,9 @@ sizes_once records = go [] records
 pub now_below : (c : ℕ) (records : List Record) → length (text_now c records) ≤ sizes_of records
 now_below c records = omega (arith, text_below (connection_now c records) (used_once records), sizes_once records)
 
-pub has_room : (terms : Terms) (records : List Record) (arrivals : List Arrival) (connections : List Connection) (desk : Desk) (c n : ℕ) → IsNumber c
-    → Serves terms records arrivals connections desk → sizes_of records + n ≤ longest_text → HasRoom (connection_at connections c) n
-has_room terms records arrivals connections desk c n low serves room =
+pub has_room : (files : List File) (terms : Terms) (records : List Record) (arrivals : List Arrival) (connections : List Connection) (decider : Decider) (c n : ℕ) → IsNumber c
+    → Serves files terms records arrivals connections decider → sizes_of records + n ≤ longest_text → HasRoom (connection_at connections c) n
+has_room files terms records arrivals connections decider c n low serves room =
     let below = now_below c records in
     room_of (connection_at connections c) (text_now c records) (messages_now c records arrivals) n (serves.reads.each c low) (omega (arith, below, room))
 
@@ -173,30 +176,30 @@ none_kept : (connections : List Connection) → connections ≡ [] → (c : ℕ)
 none_kept connections none zero = rw none refl
 none_kept connections none (suc c) = rw none refl
 
-pub serves_none : (terms : Terms) (connections : List Connection) (desk : Desk) → connections ≡ [] → DeskAfter terms [] desk → Serves terms [] [] connections desk
-serves_none terms connections desk none stands =
+pub serves_none : (files : List File) (terms : Terms) (connections : List Connection) (decider : Decider) → connections ≡ [] → DeciderAfter files terms [] decider → Serves files terms [] [] connections decider
+serves_none files terms connections decider none stands =
     let first = stand_none (connection_at connections) (none_kept connections none) in
     record { reads = record { each = first.each }; arrived = first.arrived; stands = stands }
 
 -- what was served, seen by the connections
-stand_of : (terms : Terms) (records : List Record) (arrivals : List Arrival) (connections : List Connection) (desk : Desk) → Serves terms records arrivals connections desk → Stand records arrivals (connection_at connections)
-stand_of terms records arrivals connections desk serves = record { each = serves.reads.each; arrived = serves.arrived }
+stand_of : (files : List File) (terms : Terms) (records : List Record) (arrivals : List Arrival) (connections : List Connection) (decider : Decider) → Serves files terms records arrivals connections decider → Stand records arrivals (connection_at connections)
+stand_of files terms records arrivals connections decider serves = record { each = serves.reads.each; arrived = serves.arrived }
 
-pub serves_end : (t : Texts) (terms : Terms) (tick conn n : ℕ) (records : List Record) (arrivals : List Arrival) (r : Record) (before after : List Connection) (tiers : List ℕ) (desk : Desk) (old : Option (List ℕ))
+pub serves_end : (t : Texts) (files : List File) (terms : Terms) (tick conn n : ℕ) (records : List Record) (arrivals : List Arrival) (r : Record) (before after : List Connection) (tiers : List ℕ) (decider : Decider) (old : Option (List ℕ))
     → AreTexts t → r ≡ End tick conn → n ≡ conn → IsNumber conn → connection_at after n ≡ Silent → ((c : ℕ) → c ≢ n → connection_at after c ≡ connection_at before c)
-    → AreTiers records tiers → Serves terms records arrivals before desk → WritesMore t terms records arrivals (r ∷ []) after desk old old
-serves_end t terms tick conn n records arrivals r before after tiers desk old laws is named low silent others are serves =
+    → AreTiers records tiers → Serves files terms records arrivals before decider → WritesMore t files terms records arrivals (r ∷ []) after decider old old
+serves_end t files terms tick conn n records arrivals r before after tiers decider old laws is named low silent others are serves =
     let apart : (c : ℕ) → c ≢ conn → connection_at after c ≡ connection_at before c = rw named at others in
-    let stand = stand_end records arrivals (connection_at before) (connection_at after) tick conn low are.numbers (stand_of terms records arrivals before desk serves) (rw named at silent) apart in
-    let more : Serves terms (records ++ End tick conn ∷ []) arrivals after desk = record { reads = record { each = stand.each }; arrived = stand.arrived; stands = serves.stands } in
-    rw is (record { more = []; serves = rw (append-nil arrivals) more; written = wrote_none t desk.start arrivals old laws })
+    let stand = stand_end records arrivals (connection_at before) (connection_at after) tick conn low are.numbers (stand_of files terms records arrivals before decider serves) (rw named at silent) apart in
+    let more : Serves files terms (records ++ End tick conn ∷ []) arrivals after decider = record { reads = record { each = stand.each }; arrived = stand.arrived; stands = serves.stands } in
+    rw is (record { more = []; serves = rw (append-nil arrivals) more; written = wrote_none t decider.start arrivals old laws })
 
-pub serves_tier : (t : Texts) (terms : Terms) (conn tier : ℕ) (records : List Record) (arrivals : List Arrival) (r : Record) (connections : List Connection) (desk : Desk) (old : Option (List ℕ))
-    → AreTexts t → r ≡ Tier conn tier → Serves terms records arrivals connections desk → WritesMore t terms records arrivals (r ∷ []) connections desk old old
-serves_tier t terms conn tier records arrivals r connections desk old laws is serves =
-    let stand = stand_tier records arrivals (connection_at connections) conn tier (stand_of terms records arrivals connections desk serves) in
-    let more : Serves terms (records ++ Tier conn tier ∷ []) arrivals connections desk = record { reads = record { each = stand.each }; arrived = stand.arrived; stands = serves.stands } in
-    rw is (record { more = []; serves = rw (append-nil arrivals) more; written = wrote_none t desk.start arrivals old laws })
+pub serves_tier : (t : Texts) (files : List File) (terms : Terms) (conn tier : ℕ) (records : List Record) (arrivals : List Arrival) (r : Record) (connections : List Connection) (decider : Decider) (old : Option (List ℕ))
+    → AreTexts t → r ≡ Tier conn tier → Serves files terms records arrivals connections decider → WritesMore t files terms records arrivals (r ∷ []) connections decider old old
+serves_tier t files terms conn tier records arrivals r connections decider old laws is serves =
+    let stand = stand_tier records arrivals (connection_at connections) conn tier (stand_of files terms records arrivals connections decider serves) in
+    let more : Serves files terms (records ++ Tier conn tier ∷ []) arrivals connections decider = record { reads = record { each = stand.each }; arrived = stand.arrived; stands = serves.stands } in
+    rw is (record { more = []; serves = rw (append-nil arrivals) more; written = wrote_none t decider.start arrivals old laws })
 
 -- what a piece has brought
 pub record Took (n : ℕ) (before after : List Connection) (piece : List ℕ) (out : List Message) : Type 0 where
@@ -208,20 +211,20 @@ pub record Brought (records : List Record) (arrivals : List Arrival) (r : Record
   pub reads : HaveRead (records ++ r ∷ []) (arrivals ++ more) connections
   pub arrived : AreArrivals (used_once (records ++ r ∷ [])) (arrivals ++ more)
 
-pub brought : (terms : Terms) (tick conn n : ℕ) (o : Origin) (bytes piece : List ℕ) (ms out : List Message) (records : List Record) (arrivals : List Arrival) (r : Record) (before after : List Connection) (desk : Desk)
-    → o ≡ origin_now conn tick records → IsNumber conn → r ≡ Piece tick conn bytes → n ≡ conn → piece ≡ bytes → ms ≡ out → Took n before after piece out → Serves terms records arrivals before desk
+pub brought : (files : List File) (terms : Terms) (tick conn n : ℕ) (o : Origin) (bytes piece : List ℕ) (ms out : List Message) (records : List Record) (arrivals : List Arrival) (r : Record) (before after : List Connection) (decider : Decider)
+    → o ≡ origin_now conn tick records → IsNumber conn → r ≡ Piece tick conn bytes → n ≡ conn → piece ≡ bytes → ms ≡ out → Took n before after piece out → Serves files terms records arrivals before decider
     → Brought records arrivals r after (arrivals_with (length records) (connection_now conn records) o ms)
-brought terms tick conn n o bytes piece ms out records arrivals r before after desk own low is named shown same took serves =
+brought files terms tick conn n o bytes piece ms out records arrivals r before after decider own low is named shown same took serves =
     let reading : Reads (connection_at before conn) bytes ms (connection_at after conn) = rw (named, shown, ← same) at took.own in
     let apart : (c : ℕ) → c ≢ conn → connection_at after c ≡ connection_at before c = rw named at took.others in
-    let stand = stand_piece records arrivals (connection_at before) (connection_at after) tick conn bytes ms low (stand_of terms records arrivals before desk serves) reading apart in
+    let stand = stand_piece records arrivals (connection_at before) (connection_at after) tick conn bytes ms low (stand_of files terms records arrivals before decider serves) reading apart in
     rw (is, own) (record { reads = record { each = stand.each }; arrived = stand.arrived })
 
-pub serves_piece : (t : Texts) (terms : Terms) (id : ℕ) (o : Origin) (ms : List Message) (records : List Record) (arrivals : List Arrival) (r : Record) (after : List Connection) (desk now : Desk) (old new : Option (List ℕ))
-    → Brought records arrivals r after (arrivals_with (length records) id o ms) → now.start ≡ desk.start
-    → DeskAfter terms (arrivals ++ arrivals_with (length records) id o ms) now
-    → Wrote t desk.start arrivals (arrivals_with (length records) id o ms) old new → WritesMore t terms records arrivals (r ∷ []) after now old new
-serves_piece t terms id o ms records arrivals r after desk now old new brings start stands written = record {
+pub serves_piece : (t : Texts) (files : List File) (terms : Terms) (id : ℕ) (o : Origin) (ms : List Message) (records : List Record) (arrivals : List Arrival) (r : Record) (after : List Connection) (decider now : Decider) (old new : Option (List ℕ))
+    → Brought records arrivals r after (arrivals_with (length records) id o ms) → now.start ≡ decider.start
+    → DeciderAfter files terms (arrivals ++ arrivals_with (length records) id o ms) now
+    → Wrote t decider.start arrivals (arrivals_with (length records) id o ms) old new → WritesMore t files terms records arrivals (r ∷ []) after now old new
+serves_piece t files terms id o ms records arrivals r after decider now old new brings start stands written = record {
   more = arrivals_with (length records) id o ms;
   serves = record { reads = brings.reads; arrived = brings.arrived; stands = stands };
   written = rw start written;
@@ -235,13 +238,13 @@ map_take f (suc i) (x ∷ xs) = ap (λ ys. f x ∷ ys) (map_take f i xs)
 take_with : (place id : ℕ) (origin : Origin) (i : ℕ) (ms : List Message) → arrivals_with place id origin (take i ms) ≡ take i (arrivals_with place id origin ms)
 take_with place id origin i ms = map_take (λ m. record { origin = origin; connection = id; place = place; message = m }) i ms
 
-pub serves_full : (t : Texts) (terms : Terms) (most id : ℕ) (o : Origin) (i : ℕ) (ms : List Message) (records : List Record) (arrivals : List Arrival) (r : Record) (after : List Connection) (before : List Connection) (desk : Desk) (old new : Option (List ℕ))
-    → Brought records arrivals r after (arrivals_with (length records) id o ms) → Serves terms records arrivals before desk
-    → i < length ms → desk.totals.answered + i ≡ most → Wrote t desk.start arrivals (arrivals_with (length records) id o (take i ms)) old new
-    → WritesFull t most desk.start records arrivals (r ∷ []) old new
-serves_full t terms most id o i ms records arrivals r after before desk old new brings serves lt full written =
+pub serves_full : (t : Texts) (files : List File) (terms : Terms) (most id : ℕ) (o : Origin) (i : ℕ) (ms : List Message) (records : List Record) (arrivals : List Arrival) (r : Record) (after : List Connection) (before : List Connection) (decider : Decider) (old new : Option (List ℕ))
+    → Brought records arrivals r after (arrivals_with (length records) id o ms) → Serves files terms records arrivals before decider
+    → i < length ms → decider.totals.answered + i ≡ most → Wrote t decider.start arrivals (arrivals_with (length records) id o (take i ms)) old new
+    → WritesFull t most decider.start records arrivals (r ∷ []) old new
+serves_full t files terms most id o i ms records arrivals r after before decider old new brings serves lt full written =
     let place = length records in
-    let is = answered_is terms arrivals desk serves.stands.counted in
+    let is = answered_is files terms arrivals decider serves.stands.counted in
     let len : length (arrivals_with place id o ms) ≡ length ms = length-map ms _ in
     record {
       more = arrivals_with place id o ms;
@@ -252,13 +255,13 @@ serves_full t terms most id o i ms records arrivals r after before desk old new 
       written = rw (take_with place id o i ms) at written;
     }
 
-pub serves_part : (t : Texts) (terms : Terms) (most id : ℕ) (o : Origin) (i : ℕ) (ms : List Message) (records : List Record) (arrivals : List Arrival) (r : Record) (after : List Connection) (before : List Connection) (desk : Desk) (old new : Option (List ℕ))
-    → Brought records arrivals r after (arrivals_with (length records) id o ms) → Serves terms records arrivals before desk
-    → desk.totals.answered + i ≤ most → WroteInPart t desk.start arrivals (arrivals_with (length records) id o (take i ms)) old new
-    → WritesInPart t most desk.start records arrivals (r ∷ []) old new
-serves_part t terms most id o i ms records arrivals r after before desk old new brings serves few written =
+pub serves_part : (t : Texts) (files : List File) (terms : Terms) (most id : ℕ) (o : Origin) (i : ℕ) (ms : List Message) (records : List Record) (arrivals : List Arrival) (r : Record) (after : List Connection) (before : List Connection) (decider : Decider) (old new : Option (List ℕ))
+    → Brought records arrivals r after (arrivals_with (length records) id o ms) → Serves files terms records arrivals before decider
+    → decider.totals.answered + i ≤ most → WroteInPart t decider.start arrivals (arrivals_with (length records) id o (take i ms)) old new
+    → WritesInPart t most decider.start records arrivals (r ∷ []) old new
+serves_part t files terms most id o i ms records arrivals r after before decider old new brings serves few written =
     let place = length records in
-    let is = answered_is terms arrivals desk serves.stands.counted in
+    let is = answered_is files terms arrivals decider serves.stands.counted in
     record {
       more = arrivals_with place id o ms;
       arrived = brings.arrived;
@@ -313,41 +316,41 @@ pub most_of : {v w : Version} {most answered : ℕ} → w ≡ v → most ≡ (fo
 most_of {v} {w} {most} {answered} same is within = let limit = limit_of same is in omega (arith, limit, within)
 
 -- the messages that were answered are no more than the format allows
-within_most : (terms : Terms) (v : Version) (arrivals : List Arrival) (desk : Desk) → DeskAfter terms arrivals desk → desk.totals.answered ≤ (format_of v).max_messages → length arrivals ≤ (format_of v).max_messages
-within_most terms v arrivals desk stands most = let is = answered_is terms arrivals desk stands.counted in omega (arith, is, most)
+within_most : (files : List File) (terms : Terms) (v : Version) (arrivals : List Arrival) (decider : Decider) → DeciderAfter files terms arrivals decider → decider.totals.answered ≤ (format_of v).max_messages → length arrivals ≤ (format_of v).max_messages
+within_most files terms v arrivals decider stands most = let is = answered_is files terms arrivals decider stands.counted in omega (arith, is, most)
 
 -- the whole capture was told of
-pub all_written : (t : Texts) (terms : Terms) (v : Version) (start count : ℕ) (records : List Record) (arrivals : List Arrival) (connections : List Connection) (desk : Desk)
+pub all_written : (t : Texts) (files : List File) (terms : Terms) (v : Version) (start count : ℕ) (records : List Record) (arrivals : List Arrival) (connections : List Connection) (decider : Decider)
     (input old mid new : Option (List ℕ)) (outcome : Outcome) → AreTexts t → IsCapture v start records → WhereKnown input (λ bytes. IsCaptureText v bytes start records)
-    → Serves terms records arrivals connections desk
-    → Appends old mid (t.so_far start arrivals) → Appends mid new (t.last count) → count ≡ desk.totals.answered
-    → desk.totals.answered ≤ (format_of v).max_messages → outcome.version ≡ v → outcome.rejected ≡ desk.totals.rejected → outcome.summary ≡ summary_of terms arrivals → WritesWhole t terms input old new outcome
-all_written t terms v start count records arrivals connections desk input old mid new outcome laws rules capture serves before last counted most version rejected given_by = record {
+    → Serves files terms records arrivals connections decider
+    → Appends old mid (t.so_far start arrivals) → Appends mid new (t.last count) → count ≡ decider.totals.answered
+    → decider.totals.answered ≤ (format_of v).max_messages → outcome.version ≡ v → outcome.rejected ≡ decider.totals.rejected → outcome.summary ≡ summary_of files terms arrivals → WritesWhole t files terms input old new outcome
+all_written t files terms v start count records arrivals connections decider input old mid new outcome laws rules capture serves before last counted most version rejected given_by = record {
   read = record {
     capture = record { version = v; start = start; records = records; rules = rules; text = capture };
     arrivals = arrivals;
     are = serves.arrived;
-    few = within_most terms v arrivals desk serves.stands most;
+    few = within_most files terms v arrivals decider serves.stands most;
   };
-  written = text_ended t start count arrivals old mid new laws (counted ∙ answered_is terms arrivals desk serves.stands.counted) before last;
-  outcome_is = same_outcome outcome (outcome_of v terms arrivals) version (rejected ∙ ap (λ t. t.rejected) serves.stands.counted.totals) given_by;
+  written = text_ended t start count arrivals old mid new laws (counted ∙ answered_is files terms arrivals decider serves.stands.counted) before last;
+  outcome_is = same_outcome outcome (outcome_of v files terms arrivals) version (rejected ∙ ap (λ t. t.rejected) serves.stands.counted.totals) given_by;
 }
 
 -- the last line was not
-pub ends_short : (t : Texts) (terms : Terms) (v : Version) (start count : ℕ) (records : List Record) (arrivals : List Arrival) (connections : List Connection) (desk : Desk)
+pub ends_short : (t : Texts) (files : List File) (terms : Terms) (v : Version) (start count : ℕ) (records : List Record) (arrivals : List Arrival) (connections : List Connection) (decider : Decider)
     (input old mid new : Option (List ℕ)) → AreTexts t → IsCapture v start records → WhereKnown input (λ bytes. IsCaptureText v bytes start records)
-    → Serves terms records arrivals connections desk
-    → Appends old mid (t.so_far start arrivals) → AppendsPrefix mid new (t.last count) → count ≡ desk.totals.answered → desk.totals.answered ≤ (format_of v).max_messages
+    → Serves files terms records arrivals connections decider
+    → Appends old mid (t.so_far start arrivals) → AppendsPrefix mid new (t.last count) → count ≡ decider.totals.answered → decider.totals.answered ≤ (format_of v).max_messages
     → IsCutOff t input old new
-ends_short t terms v start count records arrivals connections desk input old mid new laws rules capture serves before last counted most =
+ends_short t files terms v start count records arrivals connections decider input old mid new laws rules capture serves before last counted most =
     inr (inr (
       record {
         capture = record { version = v; start = start; records = records; rules = rules; text = capture };
         arrivals = arrivals;
         are = serves.arrived;
-        few = within_most terms v arrivals desk serves.stands most;
+        few = within_most files terms v arrivals decider serves.stands most;
       },
-      text_ended_part t start count arrivals old mid new laws (counted ∙ answered_is terms arrivals desk serves.stands.counted) before last,
+      text_ended_part t start count arrivals old mid new laws (counted ∙ answered_is files terms arrivals decider serves.stands.counted) before last,
     ))
 
 -- ---- faults
@@ -381,45 +384,45 @@ taken v input now start records arrivals p fits arrived = record {
   arrived = arrived;
 }
 
-pub halts_after : (t : Texts) (terms : Terms) (v : Version) (input now ahead left old new : Option (List ℕ)) (start : ℕ) (records : List Record) (arrivals : List Arrival) (p : Progress) (connections : List Connection) (desk : Desk)
-    (f : CaptureFault) → ReaderAfter v input start records p now → Serves terms records arrivals connections desk → Appends old new (t.so_far start arrivals)
+pub halts_after : (t : Texts) (files : List File) (terms : Terms) (v : Version) (input now ahead left old new : Option (List ℕ)) (start : ℕ) (records : List Record) (arrivals : List Arrival) (p : Progress) (connections : List Connection) (decider : Decider)
+    (f : CaptureFault) → ReaderAfter v input start records p now → Serves files terms records arrivals connections decider → Appends old new (t.so_far start arrivals)
     → (f.at ≡ length records + 1) × IsForeseen (λ bytes. IsFaultAfter v bytes start records) input f → FailsNext v input start records (Err f) left
-    → ahead ≡ left → desk.totals.answered ≤ (format_of v).max_messages → StopsWriting t input ahead old new f
-halts_after t terms v input now ahead left old new start records arrivals p connections desk f fits serves written fault failed same most = inr (
+    → ahead ≡ left → decider.totals.answered ≤ (format_of v).max_messages → StopsWriting t input ahead old new f
+halts_after t files terms v input now ahead left old new start records arrivals p connections decider f fits serves written fault failed same most = inr (
   reads_of v input now start records p fits,
   record {
     at = fault.0;
     fault = λ foreseen known. fault.1 known foreseen;
     failed = subst (λ w. FailsNext v input start records (Err f) w) (sym same) failed;
   },
-  record { arrivals = arrivals; arrived = serves.arrived; few = within_most terms v arrivals desk serves.stands most; written = written },
+  record { arrivals = arrivals; arrived = serves.arrived; few = within_most files terms v arrivals decider serves.stands most; written = written },
 )
 
 take_all : {A : Type 0} (xs : List A) → take (length xs) xs ≡ xs
 take_all xs = grind (arith, common_steps)
 
 -- all of the messages so far were answered, and nothing of the next
-pub cut_among : (t : Texts) (terms : Terms) (v : Version) (input now old new : Option (List ℕ)) (start : ℕ) (records : List Record) (arrivals : List Arrival) (p : Progress) (connections : List Connection) (desk : Desk)
-    → ReaderAfter v input start records p now → Serves terms records arrivals connections desk → Appends old new (t.so_far start arrivals) → desk.totals.answered ≤ (format_of v).max_messages
+pub cut_among : (t : Texts) (files : List File) (terms : Terms) (v : Version) (input now old new : Option (List ℕ)) (start : ℕ) (records : List Record) (arrivals : List Arrival) (p : Progress) (connections : List Connection) (decider : Decider)
+    → ReaderAfter v input start records p now → Serves files terms records arrivals connections decider → Appends old new (t.so_far start arrivals) → decider.totals.answered ≤ (format_of v).max_messages
     → IsCutOff t input old new
-cut_among t terms v input now old new start records arrivals p connections desk fits serves written most = inr (inl (record {
+cut_among t files terms v input now old new start records arrivals p connections decider fits serves written most = inr (inl (record {
   taken = taken v input now start records arrivals p fits serves.arrived;
   within = length arrivals;
-  few = within_most terms v arrivals desk serves.stands most;
+  few = within_most files terms v arrivals decider serves.stands most;
   written = rw (take_all arrivals) (prefix_all old new _ written);
 }))
 
 -- a fault of the reader that was reported
-pub halts_written : (t : Texts) (terms : Terms) (v : Version) (input now ahead left old new : Option (List ℕ)) (start : ℕ) (records : List Record) (arrivals : List Arrival) (p : Progress) (connections : List Connection) (desk : Desk)
+pub halts_written : (t : Texts) (files : List File) (terms : Terms) (v : Version) (input now ahead left old new : Option (List ℕ)) (start : ℕ) (records : List Record) (arrivals : List Arrival) (p : Progress) (connections : List Connection) (decider : Decider)
     (f : CaptureFault) (r : PassFault) → r ≡ pass_fault f
-    → ReaderAfter v input start records p now → Serves terms records arrivals connections desk → Appends old new (t.so_far start arrivals)
+    → ReaderAfter v input start records p now → Serves files terms records arrivals connections decider → Appends old new (t.so_far start arrivals)
     → (f.at ≡ length records + 1) × IsForeseen (λ bytes. IsFaultAfter v bytes start records) input f → FailsNext v input start records (Err f) left
-    → ahead ≡ left → desk.totals.answered ≤ (format_of v).max_messages → Leaves t input ahead old new r
-halts_written t terms v input now ahead left old new start records arrivals p connections desk f r is fits serves written fault failed same most =
+    → ahead ≡ left → decider.totals.answered ≤ (format_of v).max_messages → Leaves t input ahead old new r
+halts_written t files terms v input now ahead left old new start records arrivals p connections decider f r is fits serves written fault failed same most =
     rw is
     (leaves_reported t input ahead old new f
-    (halts_after t terms v input now ahead left old new start records arrivals p connections desk f fits serves written fault failed same most)
-    (cut_among t terms v input now old new start records arrivals p connections desk fits serves written most))
+    (halts_after t files terms v input now ahead left old new start records arrivals p connections decider f fits serves written fault failed same most)
+    (cut_among t files terms v input now old new start records arrivals p connections decider fits serves written most))
 
 pub halts_full : (t : Texts) (v : Version) (input now old mid new : Option (List ℕ)) (start n most : ℕ) (records : List Record) (arrivals : List Arrival) (rs : List Record) (p : Progress)
     → AreTexts t → ReaderAfter v input start (records ++ rs) p now → Appends old mid (t.so_far start arrivals) → n ≡ most → most ≡ (format_of v).max_messages
@@ -456,65 +459,65 @@ blamed_reported old new f r is count =
 
 -- ---- where the replies are reported
 
-pub first_written : (terms : Terms) (start : ℕ) (old new : Option (List ℕ)) → Appends old new first_line → Appends old new (text_before_stop (replies_of terms start (handled terms [])))
-first_written terms start old new h = text_begun (reply_texts terms) start old new (replies_laws terms) h
+pub first_written : (files : List File) (terms : Terms) (start : ℕ) (old new : Option (List ℕ)) → Appends old new first_line → Appends old new (text_before_stop (replies_of files terms start (handled files terms [])))
+first_written files terms start old new h = text_begun (reply_texts files terms) start old new (replies_laws files terms) h
 
-pub more_written : (terms : Terms) (start : ℕ) (arrivals more : List Arrival) (old mid new : Option (List ℕ)) → Appends old mid (text_before_stop (replies_of terms start (handled terms arrivals)))
-    → Written terms start arrivals more mid new → Appends old new (text_before_stop (replies_of terms start (handled terms (arrivals ++ more))))
-more_written terms start arrivals more old mid new before after = text_wrote (reply_texts terms) start arrivals more old mid new (replies_laws terms) before after
+pub more_written : (files : List File) (terms : Terms) (start : ℕ) (arrivals more : List Arrival) (old mid new : Option (List ℕ)) → Appends old mid (text_before_stop (replies_of files terms start (handled files terms arrivals)))
+    → Written files terms start arrivals more mid new → Appends old new (text_before_stop (replies_of files terms start (handled files terms (arrivals ++ more))))
+more_written files terms start arrivals more old mid new before after = text_wrote (reply_texts files terms) start arrivals more old mid new (replies_laws files terms) before after
 
 -- what was told is the answer
-pub has_answered : (terms : Terms) (input old new : Option (List ℕ)) (outcome : Outcome) → WritesWhole (reply_texts terms) terms input old new outcome → Answers terms input old new outcome
-has_answered terms input old new outcome h = record { read = h.read; written = h.written; outcome_is = h.outcome_is }
+pub has_answered : (files : List File) (terms : Terms) (input old new : Option (List ℕ)) (outcome : Outcome) → WritesWhole (reply_texts files terms) files terms input old new outcome → Answers files terms input old new outcome
+has_answered files terms input old new outcome h = answered files terms input old new outcome h.read h.written h.outcome_is
 
-pub answers_all : (terms : Terms) (v : Version) (start count : ℕ) (records : List Record) (arrivals : List Arrival) (connections : List Connection) (desk : Desk)
+pub answers_all : (files : List File) (terms : Terms) (v : Version) (start count : ℕ) (records : List Record) (arrivals : List Arrival) (connections : List Connection) (decider : Decider)
     (input old mid new : Option (List ℕ)) (outcome : Outcome) → IsCapture v start records → WhereKnown input (λ bytes. IsCaptureText v bytes start records)
-    → Serves terms records arrivals connections desk
-    → Appends old mid (text_before_stop (replies_of terms start (handled terms arrivals))) → Appends mid new (last_line count) → count ≡ desk.totals.answered
-    → desk.totals.answered ≤ (format_of v).max_messages → outcome.version ≡ v → outcome.rejected ≡ desk.totals.rejected → outcome.summary ≡ summary_of terms arrivals → Answers terms input old new outcome
-answers_all terms v start count records arrivals connections desk input old mid new outcome rules capture serves before last counted most version rejected given_by =
-    has_answered terms input old new outcome
-    (all_written (reply_texts terms) terms v start count records arrivals connections desk input old mid new outcome (replies_laws terms) rules capture serves before last counted most version rejected given_by)
+    → Serves files terms records arrivals connections decider
+    → Appends old mid (text_before_stop (replies_of files terms start (handled files terms arrivals))) → Appends mid new (last_line count) → count ≡ decider.totals.answered
+    → decider.totals.answered ≤ (format_of v).max_messages → outcome.version ≡ v → outcome.rejected ≡ decider.totals.rejected → outcome.summary ≡ summary_of files terms arrivals → Answers files terms input old new outcome
+answers_all files terms v start count records arrivals connections decider input old mid new outcome rules capture serves before last counted most version rejected given_by =
+    has_answered files terms input old new outcome
+    (all_written (reply_texts files terms) files terms v start count records arrivals connections decider input old mid new outcome (replies_laws files terms) rules capture serves before last counted most version rejected given_by)
 
-pub ends_in_part : (terms : Terms) (v : Version) (start count : ℕ) (records : List Record) (arrivals : List Arrival) (connections : List Connection) (desk : Desk)
+pub ends_in_part : (files : List File) (terms : Terms) (v : Version) (start count : ℕ) (records : List Record) (arrivals : List Arrival) (connections : List Connection) (decider : Decider)
     (input old mid new : Option (List ℕ)) → IsCapture v start records → WhereKnown input (λ bytes. IsCaptureText v bytes start records)
-    → Serves terms records arrivals connections desk
-    → Appends old mid (text_before_stop (replies_of terms start (handled terms arrivals))) → AppendsPrefix mid new (last_line count) → count ≡ desk.totals.answered → desk.totals.answered ≤ (format_of v).max_messages
-    → IsCutOff (reply_texts terms) input old new
-ends_in_part terms v start count records arrivals connections desk input old mid new rules capture serves before last counted most =
-    ends_short (reply_texts terms) terms v start count records arrivals connections desk input old mid new (replies_laws terms) rules capture serves before last counted most
+    → Serves files terms records arrivals connections decider
+    → Appends old mid (text_before_stop (replies_of files terms start (handled files terms arrivals))) → AppendsPrefix mid new (last_line count) → count ≡ decider.totals.answered → decider.totals.answered ≤ (format_of v).max_messages
+    → IsCutOff (reply_texts files terms) input old new
+ends_in_part files terms v start count records arrivals connections decider input old mid new rules capture serves before last counted most =
+    ends_short (reply_texts files terms) files terms v start count records arrivals connections decider input old mid new (replies_laws files terms) rules capture serves before last counted most
 
-pub stops_first : (terms : Terms) (input ahead old new : Option (List ℕ)) (f : CaptureFault) → Appends old new first_line → f.at ≡ 0 → IsForeseen IsHeaderFault input f
-    → FailsFirst input f ahead → Stops terms input ahead old new f
-stops_first terms input ahead old new f written at fault failed = halts_first (reply_texts terms) input ahead old new f written at fault failed
+pub stops_first : (files : List File) (terms : Terms) (input ahead old new : Option (List ℕ)) (f : CaptureFault) → Appends old new first_line → f.at ≡ 0 → IsForeseen IsHeaderFault input f
+    → FailsFirst input f ahead → Stops files terms input ahead old new f
+stops_first files terms input ahead old new f written at fault failed = halts_first (reply_texts files terms) input ahead old new f written at fault failed
 
-pub stops_reported : (terms : Terms) (v : Version) (input now ahead left old new : Option (List ℕ)) (start : ℕ) (records : List Record) (arrivals : List Arrival) (p : Progress) (connections : List Connection) (desk : Desk)
+pub stops_reported : (files : List File) (terms : Terms) (v : Version) (input now ahead left old new : Option (List ℕ)) (start : ℕ) (records : List Record) (arrivals : List Arrival) (p : Progress) (connections : List Connection) (decider : Decider)
     (f : CaptureFault) (r : PassFault) → r ≡ pass_fault f
-    → ReaderAfter v input start records p now → Serves terms records arrivals connections desk → Appends old new (text_before_stop (replies_of terms start (handled terms arrivals)))
+    → ReaderAfter v input start records p now → Serves files terms records arrivals connections decider → Appends old new (text_before_stop (replies_of files terms start (handled files terms arrivals)))
     → (f.at ≡ length records + 1) × IsForeseen (λ bytes. IsFaultAfter v bytes start records) input f → FailsNext v input start records (Err f) left
-    → ahead ≡ left → desk.totals.answered ≤ (format_of v).max_messages → Leaves (reply_texts terms) input ahead old new r
-stops_reported terms v input now ahead left old new start records arrivals p connections desk f r is fits serves written fault failed same most =
-    halts_written (reply_texts terms) terms v input now ahead left old new start records arrivals p connections desk f r is fits serves written fault failed same most
+    → ahead ≡ left → decider.totals.answered ≤ (format_of v).max_messages → Leaves (reply_texts files terms) input ahead old new r
+stops_reported files terms v input now ahead left old new start records arrivals p connections decider f r is fits serves written fault failed same most =
+    halts_written (reply_texts files terms) files terms v input now ahead left old new start records arrivals p connections decider f r is fits serves written fault failed same most
 
 -- what is left of the input, found before the rest is in sight
-pub left_first : (terms : Terms) (input ahead left old new : Option (List ℕ)) (r : PassFault) → ahead ≡ left
-    → (ahead ≡ left → Leaves (reply_texts terms) input ahead old new r) → Leaves (reply_texts terms) input ahead old new r
-left_first terms input ahead left old new r same rest = rest same
+pub left_first : (files : List File) (terms : Terms) (input ahead left old new : Option (List ℕ)) (r : PassFault) → ahead ≡ left
+    → (ahead ≡ left → Leaves (reply_texts files terms) input ahead old new r) → Leaves (reply_texts files terms) input ahead old new r
+left_first files terms input ahead left old new r same rest = rest same
 
-pub short_among : (terms : Terms) (v : Version) (input now old new : Option (List ℕ)) (start : ℕ) (records : List Record) (arrivals : List Arrival) (p : Progress) (connections : List Connection) (desk : Desk)
-    → ReaderAfter v input start records p now → Serves terms records arrivals connections desk → Appends old new (text_before_stop (replies_of terms start (handled terms arrivals))) → desk.totals.answered ≤ (format_of v).max_messages
-    → IsCutOff (reply_texts terms) input old new
-short_among terms v input now old new start records arrivals p connections desk fits serves written most =
-    cut_among (reply_texts terms) terms v input now old new start records arrivals p connections desk fits serves written most
+pub short_among : (files : List File) (terms : Terms) (v : Version) (input now old new : Option (List ℕ)) (start : ℕ) (records : List Record) (arrivals : List Arrival) (p : Progress) (connections : List Connection) (decider : Decider)
+    → ReaderAfter v input start records p now → Serves files terms records arrivals connections decider → Appends old new (text_before_stop (replies_of files terms start (handled files terms arrivals))) → decider.totals.answered ≤ (format_of v).max_messages
+    → IsCutOff (reply_texts files terms) input old new
+short_among files terms v input now old new start records arrivals p connections decider fits serves written most =
+    cut_among (reply_texts files terms) files terms v input now old new start records arrivals p connections decider fits serves written most
 
-pub stops_full : (terms : Terms) (v : Version) (input now old mid new : Option (List ℕ)) (start n most : ℕ) (records : List Record) (arrivals : List Arrival) (rs : List Record) (p : Progress)
-    → ReaderAfter v input start (records ++ rs) p now → Appends old mid (text_before_stop (replies_of terms start (handled terms arrivals))) → n ≡ most → most ≡ (format_of v).max_messages
-    → ServesFull terms most start records arrivals rs mid new → StopsFull terms input old new n
-stops_full terms v input now old mid new start n most records arrivals rs p fits written number limit full =
-    halts_full (reply_texts terms) v input now old mid new start n most records arrivals rs p (replies_laws terms) fits written number limit full
+pub stops_full : (files : List File) (terms : Terms) (v : Version) (input now old mid new : Option (List ℕ)) (start n most : ℕ) (records : List Record) (arrivals : List Arrival) (rs : List Record) (p : Progress)
+    → ReaderAfter v input start (records ++ rs) p now → Appends old mid (text_before_stop (replies_of files terms start (handled files terms arrivals))) → n ≡ most → most ≡ (format_of v).max_messages
+    → ServesFull files terms most start records arrivals rs mid new → StopsFull files terms input old new n
+stops_full files terms v input now old mid new start n most records arrivals rs p fits written number limit full =
+    halts_full (reply_texts files terms) v input now old mid new start n most records arrivals rs p (replies_laws files terms) fits written number limit full
 
-pub short_part : (terms : Terms) (v : Version) (input now old mid new : Option (List ℕ)) (start most : ℕ) (records : List Record) (arrivals : List Arrival) (rs : List Record) (p : Progress)
-    → ReaderAfter v input start (records ++ rs) p now → Appends old mid (text_before_stop (replies_of terms start (handled terms arrivals)))
-    → most ≡ (format_of v).max_messages → ServesInPart terms most start records arrivals rs mid new → IsCutOff (reply_texts terms) input old new
-short_part terms v input now old mid new start most records arrivals rs p fits written limit part =
-    cut_part (reply_texts terms) v input now old mid new start most records arrivals rs p (replies_laws terms) fits written limit part
+pub short_part : (files : List File) (terms : Terms) (v : Version) (input now old mid new : Option (List ℕ)) (start most : ℕ) (records : List Record) (arrivals : List Arrival) (rs : List Record) (p : Progress)
+    → ReaderAfter v input start (records ++ rs) p now → Appends old mid (text_before_stop (replies_of files terms start (handled files terms arrivals)))
+    → most ≡ (format_of v).max_messages → ServesInPart files terms most start records arrivals rs mid new → IsCutOff (reply_texts files terms) input old new
+short_part files terms v input now old mid new start most records arrivals rs p fits written limit part =
+    cut_part (reply_texts files terms) v input now old mid new start most records arrivals rs p (replies_laws files terms) fits written limit part

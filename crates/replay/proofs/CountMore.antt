@@ -13,9 +13,10 @@ use Rattle.reference.specs.declared.summary.Counts.{Counts}
 use Rattle.reference.specs.Reference.{Terms, Handled, status_for, count_of, counts_of, bypassed_of, rejected_of, breaks_a_rule}
 use Rattle.arrivals.specs.Reference.{Arrival}
 use Rattle.replay.specs.Totals.{one_if, with_status, AreBelow}
+use Rattle.paths.specs.declared.file.File.{File}
 
-count_more : (terms : Terms) (messages : List Handled) (h : Handled) (status : ℕ) → count_of terms (messages ++ h ∷ []) status ≡ count_of terms messages status + one_if (status_for terms h) status
-count_more terms messages h status = sum_by_push (λ h. cond (status_for terms h == status) 1 0) messages h
+count_more : (files : List File) (terms : Terms) (messages : List Handled) (h : Handled) (status : ℕ) → count_of files terms (messages ++ h ∷ []) status ≡ count_of files terms messages status + one_if (status_for files terms h) status
+count_more files terms messages h status = sum_by_push (λ h. cond (status_for files terms h == status) 1 0) messages h
 
 -- the counts of codes, with one more for this one
 abbrev more_for : ℕ → List ℕ → List ℕ → List ℕ
@@ -24,18 +25,18 @@ more_for status codes counts = map (λ entry. entry.1 + one_if status entry.0) (
 abbrev counts_with : List ℕ → Counts
 counts_with counts = record { by_status = counts }
 
-more_each : (terms : Terms) (messages : List Handled) (h : Handled) (codes : List ℕ)
-    → map (count_of terms (messages ++ h ∷ [])) codes
-    ≡ more_for (status_for terms h) codes (map (count_of terms messages) codes)
-more_each terms messages h [] = refl
-more_each terms messages h (code ∷ codes) =
-    let first = count_more terms messages h code in
-    let rest = more_each terms messages h codes in
+more_each : (files : List File) (terms : Terms) (messages : List Handled) (h : Handled) (codes : List ℕ)
+    → map (count_of files terms (messages ++ h ∷ [])) codes
+    ≡ more_for (status_for files terms h) codes (map (count_of files terms messages) codes)
+more_each files terms messages h [] = refl
+more_each files terms messages h (code ∷ codes) =
+    let first = count_more files terms messages h code in
+    let rest = more_each files terms messages h codes in
     (λ i. first i ∷ rest i)
 
-pub counts_more : (terms : Terms) (messages : List Handled) (h : Handled)
-    → counts_of terms (messages ++ h ∷ []) ≡ with_status (counts_of terms messages) (status_for terms h)
-counts_more terms messages h = ap counts_with (more_each terms messages h statuses)
+pub counts_more : (files : List File) (terms : Terms) (messages : List Handled) (h : Handled)
+    → counts_of files terms (messages ++ h ∷ []) ≡ with_status (counts_of files terms messages) (status_for files terms h)
+counts_more files terms messages h = ap counts_with (more_each files terms messages h statuses)
 
 -- ---- one more at the place of its code
 
@@ -127,9 +128,9 @@ rejected_more messages h =
     own true e = rw e refl
     own false e = rw e refl
 
-pub counts_below : (terms : Terms) (messages : List Handled) (n : ℕ) → length messages < n
-    → AreBelow n (counts_of terms messages)
-counts_below terms messages n h =
-    All-map (λ count. count < n) (count_of terms messages) statuses
+pub counts_below : (files : List File) (terms : Terms) (messages : List Handled) (n : ℕ) → length messages < n
+    → AreBelow n (counts_of files terms messages)
+counts_below files terms messages n h =
+    All-map (λ count. count < n) (count_of files terms messages) statuses
     (λ k d lt.
-    (let c = count_by-le-length (λ h. status_for terms h == get_or statuses k d) messages in omega (arith, c, h)))
+    (let c = count_by-le-length (λ h. status_for files terms h == get_or statuses k d) messages in omega (arith, c, h)))

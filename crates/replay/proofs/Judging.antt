@@ -1,4 +1,4 @@
--- What the desk makes of one more message.
+-- What the decider makes of one more message.
 use Rattle.std.proofs.Common.{◌≡◌, ℕ, ◌+◌, ◌-◌, ◌<◌, ◌≤◌, ◌/◌, Bool, true, false, List, [], ◌∷◌, ◌++◌, length, refl, sym, ap, ◌∙◌, arith, append-nil, Option, Result, Ok, Err}
 use Rattle.std.specs.Prelude.{IfOk, IfErr, OnErr}
 use Rattle.std.specs.Result.{IsErrAnd}
@@ -12,7 +12,7 @@ use Rattle.admission.specs.After.{ControllerAfter}
 use Rattle.responses.specs.declared.slip.Persistence.{Persistence}
 use Rattle.responses.specs.declared.slip.Slip.{Slip}
 use Rattle.responses.specs.Reference.{status_of, reply_text, record_text}
-use Rattle.reference.specs.Reference.{station_for, Choice, Terms, terms_of, tick_in, given, answers_head, is_head, persistence_of, outcome_answer, slip_of, offer_at, offers_of, is_turned_away, handled_next, handled_after, handled, bypassed_of, samples_of, breaks_a_rule}
+use Rattle.reference.specs.Reference.{station_for, Choice, Terms, tick_in, given, answers_head, is_head, persistence_of, outcome_answer, slip_of, offer_at, offers_of, is_turned_away, handled_next, handled_after, handled, bypassed_of, samples_of, breaks_a_rule}
 use Rattle.arrivals.specs.Reference.{Arrival}
 use Rattle.paths.specs.Reference.{asked, outcome}
 use Rattle.paths.specs.declared.file.File.{File}
@@ -28,12 +28,12 @@ use Rattle.arrivals.specs.declared.incoming.Origin.{Origin}
 use Rattle.captures.specs.declared.pass_fault.PassFault.{PassFault}
 use Rattle.captures.specs.declared.pass_fault.PassFault.TheVariants.{Capture, TooMany, Memory, Write as Unwritten}
 use Rattle.replay.specs.Totals.{AreBelow, no_counts, totals_of, noted, decided_totals, Decides}
-use Rattle.replay.specs.Serving.{Counted, DeskAfter, AreBy, IsOnTime, records_after}
+use Rattle.replay.specs.Serving.{Counted, DeciderAfter, AreBy, IsOnTime, records_after}
 use Rattle.http_requests.specs.declared.messages.Message.{Message}
 use Rattle.arrivals.specs.Connections.{arrivals_with}
 use Rattle.std.proofs.lemmas.List.Elements.{All-nil, All-cons, All-append, All-head, All-tail}
 use Rattle.replay.specs.declared.totals.Totals.{Totals}
-use Rattle.replay.specs.declared.desk.Desk.{Desk}
+use Rattle.replay.specs.declared.decider.Decider.{Decider}
 use Rattle.reference.proofs.Offering.{offers_more, handled_push, handled_count, samples_admitted, samples_rejected, is_admitted_one, is_rejected_one}
 use Rattle.reference.proofs.SameAnswer.{status_same, reply_is}
 use Rattle.replay.proofs.Writing.{records_one}
@@ -42,18 +42,18 @@ use Rattle.replay.proofs.CountMore.{counts_more, bypassed_more, bypassed_few, re
 -- ---- offers
 
 -- nothing is offered
-pub decides_none : (offers : List Offer) (desk : Desk) → ControllerAfter offers desk.controller → desk.totals.samples ≡ samples_of (station_of desk.controller) offers → Decides offers [] desk desk false
+pub decides_none : (offers : List Offer) (decider : Decider) → ControllerAfter offers decider.controller → decider.totals.samples ≡ samples_of (station_of decider.controller) offers → Decides offers [] decider decider false
 unfolding tick_from
-decides_none offers desk fits samples = record {
+decides_none offers decider fits samples = record {
   station = refl;
   fits = rw (append-nil offers) fits;
   is_away = refl;
-  totals = rw (append-nil offers, ← samples, append-nil desk.totals.rejected) refl;
+  totals = rw (append-nil offers, ← samples, append-nil decider.totals.rejected) refl;
   start = refl;
   clock = refl;
 }
 
-pub decides_admitted : (offers : List Offer) (offer : Offer) (finish : ℕ) (decision : Decision) (old new : Desk) (controller : Standing) → decision ≡ Admitted finish
+pub decides_admitted : (offers : List Offer) (offer : Offer) (finish : ℕ) (decision : Decision) (old new : Decider) (controller : Standing) → decision ≡ Admitted finish
     → decision ≡ decide (station_of old.controller) (decided (station_of old.controller) offers) offer
     → station_of controller ≡ station_of old.controller → ControllerAfter (offers ++ offer ∷ []) controller → controller.clock ≡ offer.tick → old.totals.samples ≡ samples_of (station_of old.controller) offers
     → new ≡ record { start = old.start; controller = controller; totals = decided_totals old.totals (old.totals.samples ++ (finish - offer.tick + offer.delay) ∷ []) false }
@@ -70,7 +70,7 @@ decides_admitted offers offer finish decision old new controller is e rules fits
       clock = clock;
     })
 
-pub decides_rejected : (offers : List Offer) (offer : Offer) (decision : Decision) (old new : Desk) (controller : Standing) → decision ≡ Rejected
+pub decides_rejected : (offers : List Offer) (offer : Offer) (decision : Decision) (old new : Decider) (controller : Standing) → decision ≡ Rejected
     → decision ≡ decide (station_of old.controller) (decided (station_of old.controller) offers) offer
     → station_of controller ≡ station_of old.controller → ControllerAfter (offers ++ offer ∷ []) controller → controller.clock ≡ offer.tick → old.totals.samples ≡ samples_of (station_of old.controller) offers
     → new ≡ record { start = old.start; controller = controller; totals = decided_totals old.totals old.totals.samples true }
@@ -87,32 +87,32 @@ decides_rejected offers offer decision old new controller is e rules fits clock 
       clock = clock;
     })
 
--- the desk with another controller, and with other lists of rejected requests and samples
-abbrev pub desk_with : Desk → Standing → List ℕ → List ℕ → Desk
-desk_with desk controller rejected samples = record {
-  start = desk.start;
+-- the decider with another controller, and with other lists of rejected requests and samples
+abbrev pub decider_with : Decider → Standing → List ℕ → List ℕ → Decider
+decider_with decider controller rejected samples = record {
+  start = decider.start;
   controller = controller;
-  totals = record { answered = desk.totals.answered; counts = desk.totals.counts; bypassed = desk.totals.bypassed; rejected = rejected; samples = samples };
+  totals = record { answered = decider.totals.answered; counts = decider.totals.counts; bypassed = decider.totals.bypassed; rejected = rejected; samples = samples };
 }
 
-abbrev pub desk_then : Desk → Standing → List ℕ → Bool → Desk
-desk_then desk controller samples away = record { start = desk.start; controller = controller; totals = decided_totals desk.totals samples away }
+abbrev pub decider_then : Decider → Standing → List ℕ → Bool → Decider
+decider_then decider controller samples away = record { start = decider.start; controller = controller; totals = decided_totals decider.totals samples away }
 
-pub desk_sampled : (desk : Desk) (controller : Standing) (samples more : List ℕ) → samples ≡ more → desk_with desk controller desk.totals.rejected samples ≡ desk_then desk controller more false
-desk_sampled desk controller samples more e = rw (e, append-nil desk.totals.rejected) refl
+pub decider_sampled : (decider : Decider) (controller : Standing) (samples more : List ℕ) → samples ≡ more → decider_with decider controller decider.totals.rejected samples ≡ decider_then decider controller more false
+decider_sampled decider controller samples more e = rw (e, append-nil decider.totals.rejected) refl
 
-pub desk_rejected : (desk : Desk) (controller : Standing) (rejected : List ℕ) → rejected ≡ desk.totals.rejected ++ desk.totals.answered ∷ []
-    → desk_with desk controller rejected desk.totals.samples ≡ desk_then desk controller desk.totals.samples true
-desk_rejected desk controller rejected e = rw e refl
+pub decider_rejected : (decider : Decider) (controller : Standing) (rejected : List ℕ) → rejected ≡ decider.totals.rejected ++ decider.totals.answered ∷ []
+    → decider_with decider controller rejected decider.totals.samples ≡ decider_then decider controller decider.totals.samples true
+decider_rejected decider controller rejected e = rw e refl
 
 -- a request that was turned away is told so, another is answered by its outcome
-pub given_away : (X : Type 0) (files : List File) (choice : Choice) (what : Meaning) (seconds : ℕ) (given_by : Given X) → seconds ≡ choice.retry_after → given_by ≡ Plain (ServiceUnavailable seconds)
-    → given_by ≡ given (terms_of files choice) true what
+pub given_away : (X : Type 0) (files : List File) (choice : Choice) (what : Meaning) (seconds : ℕ) (given_by : Given X) → seconds ≡ choice.served.retry_after → given_by ≡ Plain (ServiceUnavailable seconds)
+    → given_by ≡ given files choice.served true what
 given_away X files choice what seconds given_by e is = is ∙ rw e refl
 
 pub given_answer : (X : Type 0) (snapshot files : List File) (choice : Choice) (what : Meaning) (method target : List ℕ) (version : HttpVersion) (closing : Bool) (since : Option ℕ) (o : Outcome) (head : Bool) (given_by : Given X)
     → snapshot ≡ files → what ≡ Request method target version closing since → o ≡ outcome snapshot (asked method target) → head ≡ answers_head what
-    → given_by ≡ outcome_answer files head since o → given_by ≡ given (terms_of files choice) false what
+    → given_by ≡ outcome_answer files head since o → given_by ≡ given files choice.served false what
 given_answer X snapshot files choice what method target version closing since o head given_by same is found heads e =
     let own : head ≡ is_head method = heads ∙ ap answers_head is in
     e ∙ rw (is, found, same, own) refl
@@ -124,27 +124,27 @@ if_ok (Err e) P Q f h = tt
 -- ---- messages
 
 -- the totals of one more message
-totals_more : (terms : Terms) (arrivals : List Arrival) (a : Arrival) (away : Bool) → away ≡ is_turned_away terms arrivals a
-    → noted (decided_totals (totals_of terms arrivals) (samples_of (station_for terms) (offers_of terms arrivals ++ offer_at terms a.origin a.message.what)) away) (status_of (given {X = Unit {0}} terms away a.message.what)) (breaks_a_rule a.message.what)
-    ≡ totals_of terms (arrivals ++ a ∷ [])
-totals_more terms arrivals a away e =
+totals_more : (files : List File) (terms : Terms) (arrivals : List Arrival) (a : Arrival) (away : Bool) → away ≡ is_turned_away files terms arrivals a
+    → noted (decided_totals (totals_of files terms arrivals) (samples_of (station_for terms) (offers_of files terms arrivals ++ offer_at files terms a.origin a.message.what)) away) (status_of (given {X = Unit {0}} files terms away a.message.what)) (breaks_a_rule a.message.what)
+    ≡ totals_of files terms (arrivals ++ a ∷ [])
+totals_more files terms arrivals a away e =
     let len : length (arrivals ++ a ∷ []) ≡ length arrivals + 1 = length-append arrivals (a ∷ []) in
     rw (
       e,
       len,
-      handled_push terms arrivals a,
-      counts_more terms (handled terms arrivals) (handled_next terms arrivals a),
+      handled_push files terms arrivals a,
+      counts_more files terms (handled files terms arrivals) (handled_next files terms arrivals a),
       bypassed_more arrivals a,
-      rejected_more (handled terms arrivals) (handled_next terms arrivals a),
-      offers_more terms arrivals a,
+      rejected_more (handled files terms arrivals) (handled_next files terms arrivals a),
+      offers_more files terms arrivals a,
     ) refl
 
 -- a message counts after the clock that it has set
-clock_more : (terms : Terms) (a : Arrival) (what : Meaning) (before after : ℕ) → IsOnTime terms.speed a.origin.tick before → after ≡ tick_from before (offer_at terms a.origin what)
+clock_more : (files : List File) (terms : Terms) (a : Arrival) (what : Meaning) (before after : ℕ) → IsOnTime terms.speed a.origin.tick before → after ≡ tick_from before (offer_at files terms a.origin what)
     → IsOnTime terms.speed a.origin.tick after
 unfolding tick_from
-clock_more terms a (Request method target version closing since) before after by e = λ counted counts. rw e (counts a.origin.tick (omega arith))
-clock_more terms a (Bad fault) before after by e = λ counted counts. rw e (by counted counts)
+clock_more files terms a (Request method target version closing since) before after by e = λ counted counts. rw e (counts a.origin.tick (omega arith))
+clock_more files terms a (Bad fault) before after by e = λ counted counts. rw e (by counted counts)
 
 last_by : (arrivals : List Arrival) (a : Arrival) (tick : ℕ) → AreBy tick (arrivals ++ a ∷ []) → a.origin.tick ≤ tick
 last_by [] a tick by = All-head (λ x. x.origin.tick ≤ tick) a [] by
@@ -156,89 +156,89 @@ later_more terms arrivals a clock by tick all = λ counted counts.
     let last = last_by arrivals a tick all in
     by counted (λ earlier le. counts earlier (omega (arith, le, last)))
 
-pub stands_more : (terms : Terms) (arrivals : List Arrival) (a : Arrival) (away : Bool) (old mid new : Desk) (status : ℕ) → Counted terms arrivals old
+pub stands_more : (files : List File) (terms : Terms) (arrivals : List Arrival) (a : Arrival) (away : Bool) (old mid new : Decider) (status : ℕ) → Counted files terms arrivals old
     → IsOnTime terms.speed a.origin.tick old.controller.clock
-    → Decides (offers_of terms arrivals) (offer_at terms a.origin a.message.what) old mid away
-    → status ≡ status_of (given {X = Unit {0}} terms away a.message.what)
+    → Decides (offers_of files terms arrivals) (offer_at files terms a.origin a.message.what) old mid away
+    → status ≡ status_of (given {X = Unit {0}} files terms away a.message.what)
     → new.controller ≡ mid.controller → new.totals ≡ noted mid.totals status (breaks_a_rule a.message.what)
-    → length arrivals < 536870912 → DeskAfter terms (arrivals ++ a ∷ []) new
-stands_more terms arrivals a away old mid new status stands by decides given_by same counted few =
-    let away_is : away ≡ is_turned_away terms arrivals a = rw stands.station at decides.is_away in
-    let passed = clock_more terms a a.message.what _ _ by (ap (λ c. c.clock) same ∙ decides.clock) in
+    → length arrivals < 536870912 → DeciderAfter files terms (arrivals ++ a ∷ []) new
+stands_more files terms arrivals a away old mid new status stands by decides given_by same counted few =
+    let away_is : away ≡ is_turned_away files terms arrivals a = rw stands.station at decides.is_away in
+    let passed = clock_more files terms a a.message.what _ _ by (ap (λ c. c.clock) same ∙ decides.clock) in
     record {
       counted = record {
         station = ap station_of same ∙ decides.station ∙ stands.station;
-        fits = rw (same, offers_more terms arrivals a) decides.fits;
-        totals = counted ∙ rw (decides.totals, stands.totals, stands.station, given_by) (totals_more terms arrivals a away away_is);
+        fits = rw (same, offers_more files terms arrivals a) decides.fits;
+        totals = counted ∙ rw (decides.totals, stands.totals, stands.station, given_by) (totals_more files terms arrivals a away away_is);
         few = let len = length-append arrivals (a ∷ []) in omega (arith, len, few);
       };
       clock = later_more terms arrivals a new.controller.clock passed;
     }
 
-pub stands_none : (terms : Terms) (desk : Desk) → (station_of desk.controller) ≡ (station_for terms) → ControllerAfter [] desk.controller → desk.controller.clock ≡ 0
-    → desk.totals ≡ record { answered = 0; counts = no_counts; bypassed = 0; rejected = []; samples = [] } → DeskAfter terms [] desk
+pub stands_none : (files : List File) (terms : Terms) (decider : Decider) → (station_of decider.controller) ≡ (station_for terms) → ControllerAfter [] decider.controller → decider.controller.clock ≡ 0
+    → decider.totals ≡ record { answered = 0; counts = no_counts; bypassed = 0; rejected = []; samples = [] } → DeciderAfter files terms [] decider
 unfolding offers_of samples_of handled_after served decided_from
-stands_none terms desk rules fits clock totals = record {
+stands_none files terms decider rules fits clock totals = record {
   counted = record { station = rules; fits = fits; totals = totals; few = omega arith };
   clock = λ tick by counted counts. rw clock (omega arith);
 }
 
--- ---- what the desk's calls ask
+-- ---- what the decider's calls ask
 
-pub answered_is : (terms : Terms) (arrivals : List Arrival) (desk : Desk) → Counted terms arrivals desk → desk.totals.answered ≡ length arrivals
-answered_is terms arrivals desk stands = ap (λ t. t.answered) stands.totals
+pub answered_is : (files : List File) (terms : Terms) (arrivals : List Arrival) (decider : Decider) → Counted files terms arrivals decider → decider.totals.answered ≡ length arrivals
+answered_is files terms arrivals decider stands = ap (λ t. t.answered) stands.totals
 
-pub samples_are : (terms : Terms) (arrivals : List Arrival) (desk : Desk) → Counted terms arrivals desk → desk.totals.samples ≡ samples_of (station_of desk.controller) (offers_of terms arrivals)
-samples_are terms arrivals desk stands = rw stands.station (ap (λ t. t.samples) stands.totals)
+pub samples_are : (files : List File) (terms : Terms) (arrivals : List Arrival) (decider : Decider) → Counted files terms arrivals decider → decider.totals.samples ≡ samples_of (station_of decider.controller) (offers_of files terms arrivals)
+samples_are files terms arrivals decider stands = rw stands.station (ap (λ t. t.samples) stands.totals)
 
-pub counts_room : (terms : Terms) (arrivals : List Arrival) (desk : Desk) (n : ℕ) → Counted terms arrivals desk → length arrivals < n → AreBelow n desk.totals.counts
-counts_room terms arrivals desk n stands lt =
-    let len : length (handled terms arrivals) ≡ length arrivals = handled_count terms [] arrivals in
-    rw (ap (λ t. t.counts) stands.totals) (counts_below terms (handled terms arrivals) n (omega (arith, len, lt)))
+pub counts_room : (files : List File) (terms : Terms) (arrivals : List Arrival) (decider : Decider) (n : ℕ) → Counted files terms arrivals decider → length arrivals < n → AreBelow n decider.totals.counts
+counts_room files terms arrivals decider n stands lt =
+    let len : length (handled files terms arrivals) ≡ length arrivals = handled_count files terms [] arrivals in
+    rw (ap (λ t. t.counts) stands.totals) (counts_below files terms (handled files terms arrivals) n (omega (arith, len, lt)))
 
-pub bypassed_room : (terms : Terms) (arrivals : List Arrival) (desk : Desk) (n : ℕ) → Counted terms arrivals desk → length arrivals < n → desk.totals.bypassed < n
-bypassed_room terms arrivals desk n stands lt =
-    let is : desk.totals.bypassed ≡ bypassed_of arrivals = ap (λ t. t.bypassed) stands.totals in
+pub bypassed_room : (files : List File) (terms : Terms) (arrivals : List Arrival) (decider : Decider) (n : ℕ) → Counted files terms arrivals decider → length arrivals < n → decider.totals.bypassed < n
+bypassed_room files terms arrivals decider n stands lt =
+    let is : decider.totals.bypassed ≡ bypassed_of arrivals = ap (λ t. t.bypassed) stands.totals in
     let few = bypassed_few arrivals in
     omega (arith, is, few, lt)
 
--- ---- one message at the desk
+-- ---- one message at the decider
 
--- what the desk has made of a message that is told this
-abbrev pub Judged : {X : Type 0} → Terms → List Offer → Origin → Meaning → Desk → Desk → Given X → Type 0
-Judged terms offers origin what old mid given_by = (away : Bool) × Decides offers (offer_at terms origin what) old mid away × (given_by ≡ given terms away what)
+-- what the decider has made of a message that is told this
+abbrev pub Judged : {X : Type 0} → List File → Terms → List Offer → Origin → Meaning → Decider → Decider → Given X → Type 0
+Judged files terms offers origin what old mid given_by = (away : Bool) × Decides offers (offer_at files terms origin what) old mid away × (given_by ≡ given files terms away what)
 
-pub counts_kept : (X : Type 0) (terms : Terms) (arrivals : List Arrival) (origin : Origin) (what : Meaning) (old mid : Desk) (given_by : Given X) (n : ℕ) → Counted terms arrivals old
-    → Judged terms (offers_of terms arrivals) origin what old mid given_by → length arrivals < n → AreBelow n mid.totals.counts × (mid.totals.bypassed < n) × (mid.totals.answered ≡ old.totals.answered)
-counts_kept X terms arrivals origin what old mid given_by n stands judged lt =
+pub counts_kept : (X : Type 0) (files : List File) (terms : Terms) (arrivals : List Arrival) (origin : Origin) (what : Meaning) (old mid : Decider) (given_by : Given X) (n : ℕ) → Counted files terms arrivals old
+    → Judged files terms (offers_of files terms arrivals) origin what old mid given_by → length arrivals < n → AreBelow n mid.totals.counts × (mid.totals.bypassed < n) × (mid.totals.answered ≡ old.totals.answered)
+counts_kept X files terms arrivals origin what old mid given_by n stands judged lt =
     let kept = judged.1.totals in (
-      rw kept (counts_room terms arrivals old n stands lt),
-      rw kept (bypassed_room terms arrivals old n stands lt),
+      rw kept (counts_room files terms arrivals old n stands lt),
+      rw kept (bypassed_room files terms arrivals old n stands lt),
       ap (λ t. t.answered) kept,
     )
 
-pub stands_after : (X : Type 0) (terms : Terms) (arrivals : List Arrival) (a : Arrival) (origin : Origin) (what : Meaning) (old mid : Desk) (totals : Totals) (given_by : Given X) → Counted terms arrivals old → IsOnTime terms.speed a.origin.tick old.controller.clock
-    → a.origin ≡ origin → a.message.what ≡ what → old.totals.answered < 536870912 → Judged terms (offers_of terms arrivals) origin what old mid given_by
+pub stands_after : (X : Type 0) (files : List File) (terms : Terms) (arrivals : List Arrival) (a : Arrival) (origin : Origin) (what : Meaning) (old mid : Decider) (totals : Totals) (given_by : Given X) → Counted files terms arrivals old → IsOnTime terms.speed a.origin.tick old.controller.clock
+    → a.origin ≡ origin → a.message.what ≡ what → old.totals.answered < 536870912 → Judged files terms (offers_of files terms arrivals) origin what old mid given_by
     → totals ≡ noted mid.totals (status_of given_by) (breaks_a_rule what)
-    → DeskAfter terms (arrivals ++ a ∷ []) (record { start = mid.start; controller = mid.controller; totals = totals })
-stands_after X terms arrivals a origin what old mid totals given_by stands by from meaning room judged counted =
-    let e = answered_is terms arrivals old stands in
-    let status : status_of given_by ≡ status_of (given {X = Unit {0}} terms judged.0 a.message.what) = rw (judged.2, meaning) (status_same X (Unit {0}) terms judged.0 what) in
-    stands_more terms arrivals a judged.0 old mid _ (status_of given_by) stands by (rw (from, meaning) judged.1) status refl (rw meaning counted) (omega (arith, e, room))
+    → DeciderAfter files terms (arrivals ++ a ∷ []) (record { start = mid.start; controller = mid.controller; totals = totals })
+stands_after X files terms arrivals a origin what old mid totals given_by stands by from meaning room judged counted =
+    let e = answered_is files terms arrivals old stands in
+    let status : status_of given_by ≡ status_of (given {X = Unit {0}} files terms judged.0 a.message.what) = rw (judged.2, meaning) (status_same X (Unit {0}) files terms judged.0 what) in
+    stands_more files terms arrivals a judged.0 old mid _ (status_of given_by) stands by (rw (from, meaning) judged.1) status refl (rw meaning counted) (omega (arith, e, room))
 
-pub slip_is : (X : Type 0) (terms : Terms) (start : ℕ) (arrivals : List Arrival) (a : Arrival) (origin : Origin) (what : Meaning) (old mid : Desk) (given_by : Given X) (conn : ℕ) (head : Bool) (link : Persistence) (slip : Slip X)
-    → Counted terms arrivals old → a.origin ≡ origin → a.message.what ≡ what → Judged terms (offers_of terms arrivals) origin what old mid given_by
+pub slip_is : (X : Type 0) (files : List File) (terms : Terms) (start : ℕ) (arrivals : List Arrival) (a : Arrival) (origin : Origin) (what : Meaning) (old mid : Decider) (given_by : Given X) (conn : ℕ) (head : Bool) (link : Persistence) (slip : Slip X)
+    → Counted files terms arrivals old → a.origin ≡ origin → a.message.what ≡ what → Judged files terms (offers_of files terms arrivals) origin what old mid given_by
     → conn ≡ origin.conn → head ≡ answers_head what → link ≡ persistence_of what
     → slip ≡ record { number = old.totals.answered; conn = conn; date = start + tick_in terms origin / 1000000; head = head; link = link; what = given_by }
-    → slip ≡ slip_of terms start (handled_next terms arrivals a)
-slip_is X terms start arrivals a origin what old mid given_by conn head link slip stands from meaning judged conns heads links slips =
-    let away_is : judged.0 ≡ is_turned_away terms arrivals a = rw (from, meaning) (rw stands.station at judged.1.is_away) in
-    slips ∙ rw (answered_is terms arrivals old stands, conns, heads, links, judged.2, away_is, from, meaning) refl
+    → slip ≡ slip_of files terms start (handled_next files terms arrivals a)
+slip_is X files terms start arrivals a origin what old mid given_by conn head link slip stands from meaning judged conns heads links slips =
+    let away_is : judged.0 ≡ is_turned_away files terms arrivals a = rw (from, meaning) (rw stands.station at judged.1.is_away) in
+    slips ∙ rw (answered_is files terms arrivals old stands, conns, heads, links, judged.2, away_is, from, meaning) refl
 
 -- what a message's reply has written
-pub reply_written : (X : Type 0) (terms : Terms) (start : ℕ) (arrivals : List Arrival) (a : Arrival) (slip : Slip X) (r : ℕ × ℕ × List ℕ) → slip ≡ slip_of terms start (handled_next terms arrivals a)
-    → r ≡ (slip.number, slip.conn, reply_text terms.files slip) → record_text r ≡ records_after terms start arrivals (a ∷ [])
-reply_written X terms start arrivals a slip r slips given_by = ap record_text (reply_is terms start (handled_next terms arrivals a) slip r slips given_by) ∙ sym (records_one terms start arrivals a)
+pub reply_written : (X : Type 0) (files : List File) (terms : Terms) (start : ℕ) (arrivals : List Arrival) (a : Arrival) (slip : Slip X) (r : ℕ × ℕ × List ℕ) → slip ≡ slip_of files terms start (handled_next files terms arrivals a)
+    → r ≡ (slip.number, slip.conn, reply_text files slip) → record_text r ≡ records_after files terms start arrivals (a ∷ [])
+reply_written X files terms start arrivals a slip r slips given_by = ap record_text (reply_is files terms start (handled_next files terms arrivals a) slip r slips given_by) ∙ sym (records_one files terms start arrivals a)
 
 -- ---- faults
 

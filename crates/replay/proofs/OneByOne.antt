@@ -9,14 +9,14 @@ use Rattle.responses.specs.Reference.{record_text}
 use Rattle.reference.specs.Reference.{Terms, handled_next, slip_of}
 use Rattle.arrivals.specs.Reference.{Arrival}
 use Rattle.arrivals.specs.declared.incoming.Incoming.{Incoming}
-use Rattle.replay.specs.Serving.{DeskAfter}
+use Rattle.replay.specs.Serving.{DeciderAfter}
 use Rattle.replay.specs.Fronts.{front_value}
 use Rattle.replay.specs.Backs.{is_back, slip_of_pending, reply_to}
 use Rattle.replay.specs.Groups.{all_of, records_of}
 use Rattle.replay.specs.Waiting.{incoming_of, AreLookedUp, Upcoming}
 use Rattle.replay.specs.declared.pending.PendingReply.{PendingReply}
 use Rattle.replay.specs.declared.back.BackState.TheVariants.{Due as Waits}
-use Rattle.replay.specs.declared.desk.Desk.{Desk}
+use Rattle.replay.specs.declared.decider.Decider.{Decider}
 use Rattle.replay.proofs.PendingReplies.{Settled, Next, next_is, settled_more, settled_last}
 use Rattle.replay.proofs.Upcoming.{looked_up_are}
 use Rattle.replay.proofs.Grouping.{Answered, answered_none, answered_more, answered_part, answered_all, group_ready}
@@ -24,34 +24,34 @@ use Rattle.replay.proofs.Grouping.{Answered, answered_none, answered_more, answe
 -- ---- decided on
 
 -- the first k of the messages are looked up and decided on
-abbrev pub SettledOf : {X : Type 0} → List File → Terms → Tariff → List Incoming → Desk → Desk → List Incoming → List (PendingReply X) → ℕ → Type 0
+abbrev pub SettledOf : {X : Type 0} → List File → Terms → Tariff → List Incoming → Decider → Decider → List Incoming → List (PendingReply X) → ℕ → Type 0
 SettledOf files terms tariff messages old now rest pending_replies k =
     Settled files terms tariff (map (front_value files tariff) messages) old now (map (front_value files tariff) rest) pending_replies k
 
-pub all_looked_up : (files : List File) (terms : Terms) (tariff : Tariff) (arrivals more : List Arrival) (messages : List Incoming) (desk : Desk)
-    → Upcoming terms arrivals more messages desk → AreLookedUp files tariff more (map (front_value files tariff) messages)
-all_looked_up files terms tariff arrivals more messages desk up =
+pub all_looked_up : (files : List File) (terms : Terms) (tariff : Tariff) (arrivals more : List Arrival) (messages : List Incoming) (decider : Decider)
+    → Upcoming files terms arrivals more messages decider → AreLookedUp files tariff more (map (front_value files tariff) messages)
+all_looked_up files terms tariff arrivals more messages decider up =
     looked_up_are files tariff tariff more messages (map (front_value files tariff) messages) refl up.are refl
 
-pub next_of : {X : Type 0} (files : List File) (terms : Terms) (tariff : Tariff) (messages : List Incoming) (old now : Desk) (rest after : List Incoming) (pending_replies : List (PendingReply X)) (k : ℕ)
+pub next_of : {X : Type 0} (files : List File) (terms : Terms) (tariff : Tariff) (messages : List Incoming) (old now : Decider) (rest after : List Incoming) (pending_replies : List (PendingReply X)) (k : ℕ)
     (arrivals more : List Arrival) (message : Incoming) → SettledOf files terms tariff messages old now rest pending_replies k → rest ≡ message ∷ after
-    → Upcoming terms arrivals more messages old → length arrivals + length more ≤ 536870912 → Next terms now message
+    → Upcoming files terms arrivals more messages old → length arrivals + length more ≤ 536870912 → Next files terms now message
 next_of files terms tariff messages old now rest after pending_replies k arrivals more message settled steps up few =
     (next_is files terms tariff (map (front_value files tariff) messages) old now (map (front_value files tariff) rest) (map (front_value files tariff) after) pending_replies k arrivals more
     (front_value files tariff message) settled (ap (map (front_value files tariff)) steps) up.stands (all_looked_up files terms tariff arrivals more messages old up) up.timely few).0
 
-pub settled_next : {X : Type 0} (files : List File) (terms : Terms) (tariff : Tariff) (messages : List Incoming) (old now next : Desk) (rest after : List Incoming) (pending_replies : List (PendingReply X)) (t : PendingReply X) (k : ℕ)
+pub settled_next : {X : Type 0} (files : List File) (terms : Terms) (tariff : Tariff) (messages : List Incoming) (old now next : Decider) (rest after : List Incoming) (pending_replies : List (PendingReply X)) (t : PendingReply X) (k : ℕ)
     (message : Incoming) → SettledOf files terms tariff messages old now rest pending_replies k → rest ≡ message ∷ after
-    → ((arrivals : List Arrival) (a : Arrival) → DeskAfter terms arrivals now → incoming_of a ≡ message → DeskAfter terms (arrivals ++ a ∷ []) next)
-    → ((arrivals : List Arrival) (a : Arrival) → DeskAfter terms arrivals now → incoming_of a ≡ message → slip_of_pending t ≡ slip_of terms now.start (handled_next terms arrivals a))
+    → ((arrivals : List Arrival) (a : Arrival) → DeciderAfter files terms arrivals now → incoming_of a ≡ message → DeciderAfter files terms (arrivals ++ a ∷ []) next)
+    → ((arrivals : List Arrival) (a : Arrival) → DeciderAfter files terms arrivals now → incoming_of a ≡ message → slip_of_pending t ≡ slip_of files terms now.start (handled_next files terms arrivals a))
     → is_back files (Waits t) ≡ true → next.start ≡ now.start
     → SettledOf files terms tariff messages old next after (pending_replies ++ t ∷ []) (k + 1)
 settled_next files terms tariff messages old now next rest after pending_replies t k message settled steps stands slip ready start =
     settled_more files terms tariff (map (front_value files tariff) messages) old now next (map (front_value files tariff) rest) (map (front_value files tariff) after) pending_replies t k
     (front_value files tariff message) settled (ap (map (front_value files tariff)) steps) stands slip ready start
 
-pub settled_whole : {X : Type 0} (files : List File) (terms : Terms) (tariff : Tariff) (messages : List Incoming) (old now : Desk) (rest : List Incoming) (pending_replies : List (PendingReply X)) (k : ℕ) (arrivals more : List Arrival)
-    → SettledOf files terms tariff messages old now rest pending_replies k → rest ≡ [] → Upcoming terms arrivals more messages old → take k more ≡ more
+pub settled_whole : {X : Type 0} (files : List File) (terms : Terms) (tariff : Tariff) (messages : List Incoming) (old now : Decider) (rest : List Incoming) (pending_replies : List (PendingReply X)) (k : ℕ) (arrivals more : List Arrival)
+    → SettledOf files terms tariff messages old now rest pending_replies k → rest ≡ [] → Upcoming files terms arrivals more messages old → take k more ≡ more
 settled_whole files terms tariff messages old now rest pending_replies k arrivals more settled none up =
     settled_last files terms tariff (map (front_value files tariff) messages) old now (map (front_value files tariff) rest) pending_replies k more settled
     (ap (map (front_value files tariff)) none) (all_looked_up files terms tariff arrivals more messages old up)

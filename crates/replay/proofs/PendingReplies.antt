@@ -6,7 +6,7 @@ use Rattle.paths.specs.declared.file.File.{File}
 use Rattle.cost_model.specs.Reference.{Tariff}
 use Rattle.reference.specs.Reference.{Terms, handled_next, handled_after, slip_of}
 use Rattle.arrivals.specs.Reference.{Arrival}
-use Rattle.replay.specs.Serving.{DeskAfter, AreBy}
+use Rattle.replay.specs.Serving.{DeciderAfter, AreBy}
 use Rattle.replay.specs.Fronts.{front_value, lookup_of}
 use Rattle.replay.specs.Backs.{is_back, slip_of_pending}
 use Rattle.replay.specs.Waiting.{incoming_of, AreLookedUp, InTime}
@@ -14,17 +14,17 @@ use Rattle.arrivals.specs.declared.incoming.Incoming.{Incoming}
 use Rattle.replay.specs.declared.lookup.LookedUp.{LookedUp}
 use Rattle.replay.specs.declared.pending.PendingReply.{PendingReply}
 use Rattle.replay.specs.declared.back.BackState.TheVariants.{Due as Waits}
-use Rattle.replay.specs.declared.desk.Desk.{Desk}
+use Rattle.replay.specs.declared.decider.Decider.{Decider}
 use Rattle.reference.proofs.Offering.{handled_more, handled_one}
 use Rattle.replay.proofs.Judging.{answered_is}
 
 -- the first k of the messages are decided on
-pub record Settled {X : Type 0} (files : List File) (terms : Terms) (tariff : Tariff) (lookups : List LookedUp) (old now : Desk) (rest : List LookedUp) (pending_replies : List (PendingReply X)) (k : ℕ) : Type 0 where
+pub record Settled {X : Type 0} (files : List File) (terms : Terms) (tariff : Tariff) (lookups : List LookedUp) (old now : Decider) (rest : List LookedUp) (pending_replies : List (PendingReply X)) (k : ℕ) : Type 0 where
   pub count : length pending_replies ≡ k
   pub rest_is : rest ≡ drop k lookups
-  pub stands : (arrivals more : List Arrival) → DeskAfter terms arrivals old → AreLookedUp files tariff more lookups → DeskAfter terms (arrivals ++ take k more) now
-  pub slips : (arrivals more : List Arrival) → DeskAfter terms arrivals old → AreLookedUp files tariff more lookups
-      → map slip_of_pending pending_replies ≡ map (slip_of terms old.start) (handled_after terms arrivals (take k more))
+  pub stands : (arrivals more : List Arrival) → DeciderAfter files terms arrivals old → AreLookedUp files tariff more lookups → DeciderAfter files terms (arrivals ++ take k more) now
+  pub slips : (arrivals more : List Arrival) → DeciderAfter files terms arrivals old → AreLookedUp files tariff more lookups
+      → map slip_of_pending pending_replies ≡ map (slip_of files terms old.start) (handled_after files terms arrivals (take k more))
   pub ready : list_all (λ t. is_back files (Waits t)) pending_replies ≡ true
   pub start : now.start ≡ old.start
 
@@ -68,19 +68,19 @@ list_all-push p (y ∷ xs) x h e = go (p y) (list_all p xs) (list_all p (xs ++ x
     go true all more h f = f h e
     go false all more h f = h
 
--- what `settle` asks of the next message
-pub record Next (terms : Terms) (desk : Desk) (message : Incoming) : Type 0 where
+-- what `decide_next` asks of the next message
+pub record Next (files : List File) (terms : Terms) (decider : Decider) (message : Incoming) : Type 0 where
   pub arrivals : List Arrival
-  pub stands : DeskAfter terms arrivals desk
+  pub stands : DeciderAfter files terms arrivals decider
   pub by : AreBy message.origin.tick arrivals
   pub tick : message.origin.tick ≤ 1000000000000000
   pub tier : message.origin.tier < 4
-  pub few : desk.totals.answered < 536870912
+  pub few : decider.totals.answered < 536870912
 
-pub next_is : {X : Type 0} (files : List File) (terms : Terms) (tariff : Tariff) (lookups : List LookedUp) (old now : Desk) (rest after : List LookedUp) (pending_replies : List (PendingReply X)) (k : ℕ)
+pub next_is : {X : Type 0} (files : List File) (terms : Terms) (tariff : Tariff) (lookups : List LookedUp) (old now : Decider) (rest after : List LookedUp) (pending_replies : List (PendingReply X)) (k : ℕ)
     (arrivals more : List Arrival) (s : LookedUp) → Settled files terms tariff lookups old now rest pending_replies k → rest ≡ s ∷ after
-    → DeskAfter terms arrivals old → AreLookedUp files tariff more lookups → InTime arrivals more → length arrivals + length more ≤ 536870912
-    → Next terms now s.message × (s ≡ front_value files tariff s.message) × (s.lookup ≡ lookup_of files tariff s.message.what)
+    → DeciderAfter files terms arrivals old → AreLookedUp files tariff more lookups → InTime arrivals more → length arrivals + length more ≤ 536870912
+    → Next files terms now s.message × (s ≡ front_value files tariff s.message) × (s.lookup ≡ lookup_of files tariff s.message.what)
 next_is files terms tariff lookups old now rest after pending_replies k arrivals more s settled steps stands looked_up timely few =
     let here = at_place (λ a. front_value files tariff (incoming_of a)) more k s after (sym steps ∙ settled.rest_is ∙ ap (drop k) looked_up) in
     let a = here.one in
@@ -88,7 +88,7 @@ next_is files terms tariff lookups old now rest after pending_replies k arrivals
     let tick : a.origin.tick ≡ s.message.origin.tick = ap (λ (m : Incoming). m.origin.tick) own in
     let timing = in_time_at arrivals more k a timely here.rest in
     let now_stands = settled.stands arrivals more stands looked_up in
-    let counted = answered_is terms (arrivals ++ take k more) now now_stands.counted in
+    let counted = answered_is files terms (arrivals ++ take k more) now now_stands.counted in
     let len = length-append arrivals (take k more) in
     let short = length_take_below k more here.below in
     let below = here.below in (
@@ -110,10 +110,10 @@ next_is files terms tariff lookups old now rest after pending_replies k arrivals
     length_take_below (suc k) (x ∷ xs) lt = ap (λ n. suc n) (length_take_below k xs (omega (arith, lt)))
 
 -- one more of them is
-pub settled_more : {X : Type 0} (files : List File) (terms : Terms) (tariff : Tariff) (lookups : List LookedUp) (old now next : Desk) (rest after : List LookedUp) (pending_replies : List (PendingReply X)) (t : PendingReply X) (k : ℕ)
+pub settled_more : {X : Type 0} (files : List File) (terms : Terms) (tariff : Tariff) (lookups : List LookedUp) (old now next : Decider) (rest after : List LookedUp) (pending_replies : List (PendingReply X)) (t : PendingReply X) (k : ℕ)
     (s : LookedUp) → Settled files terms tariff lookups old now rest pending_replies k → rest ≡ s ∷ after
-    → ((arrivals : List Arrival) (a : Arrival) → DeskAfter terms arrivals now → incoming_of a ≡ s.message → DeskAfter terms (arrivals ++ a ∷ []) next)
-    → ((arrivals : List Arrival) (a : Arrival) → DeskAfter terms arrivals now → incoming_of a ≡ s.message → slip_of_pending t ≡ slip_of terms now.start (handled_next terms arrivals a))
+    → ((arrivals : List Arrival) (a : Arrival) → DeciderAfter files terms arrivals now → incoming_of a ≡ s.message → DeciderAfter files terms (arrivals ++ a ∷ []) next)
+    → ((arrivals : List Arrival) (a : Arrival) → DeciderAfter files terms arrivals now → incoming_of a ≡ s.message → slip_of_pending t ≡ slip_of files terms now.start (handled_next files terms arrivals a))
     → is_back files (Waits t) ≡ true → next.start ≡ now.start
     → Settled files terms tariff lookups old next after (pending_replies ++ t ∷ []) (k + 1)
 settled_more {X} files terms tariff lookups old now next rest after pending_replies t k s settled steps stands slip ready start = rw (one_more k) (record {
@@ -127,9 +127,9 @@ settled_more {X} files terms tariff lookups old now next rest after pending_repl
       let own = slip (arrivals ++ take k more) here.one (settled.stands arrivals more begun looked_up) (ap (λ (v : LookedUp). v.message) here.is) in
       rw (
         here.taken,
-        handled_more terms arrivals (take k more) (here.one ∷ []),
-        handled_one terms (arrivals ++ take k more) here.one,
-        map-append (slip_of {X = X} terms old.start) (handled_after terms arrivals (take k more)) (handled_next terms (arrivals ++ take k more) here.one ∷ []),
+        handled_more files terms arrivals (take k more) (here.one ∷ []),
+        handled_one files terms (arrivals ++ take k more) here.one,
+        map-append (slip_of {X = X} files terms old.start) (handled_after files terms arrivals (take k more)) (handled_next files terms (arrivals ++ take k more) here.one ∷ []),
         map-append (slip_of_pending {X = X}) pending_replies (t ∷ []),
         settled.slips arrivals more begun looked_up,
         own,
@@ -156,7 +156,7 @@ settled_all (x ∷ xs) (suc k) e [] l = refl
 settled_all (x ∷ xs) (suc k) e (y ∷ m) l = ap (λ ys. y ∷ ys) (settled_all xs k e m (omega (arith, l)))
 
 -- nothing is decided on yet
-pub settled_none : {X : Type 0} (files : List File) (terms : Terms) (tariff : Tariff) (lookups : List LookedUp) (old : Desk) (rest : List LookedUp) (pending_replies : List (PendingReply X)) (k : ℕ)
+pub settled_none : {X : Type 0} (files : List File) (terms : Terms) (tariff : Tariff) (lookups : List LookedUp) (old : Decider) (rest : List LookedUp) (pending_replies : List (PendingReply X)) (k : ℕ)
     → pending_replies ≡ [] → k ≡ 0 → rest ≡ lookups → Settled files terms tariff lookups old old rest pending_replies k
 unfolding handled_after
 settled_none {X} files terms tariff lookups old rest pending_replies k none start all = rw (none, start) (record {
@@ -169,7 +169,7 @@ settled_none {X} files terms tariff lookups old rest pending_replies k none star
 })
 
 -- all are
-pub settled_last : {X : Type 0} (files : List File) (terms : Terms) (tariff : Tariff) (lookups : List LookedUp) (old now : Desk) (rest : List LookedUp) (pending_replies : List (PendingReply X)) (k : ℕ) (more : List Arrival)
+pub settled_last : {X : Type 0} (files : List File) (terms : Terms) (tariff : Tariff) (lookups : List LookedUp) (old now : Decider) (rest : List LookedUp) (pending_replies : List (PendingReply X)) (k : ℕ) (more : List Arrival)
     → Settled files terms tariff lookups old now rest pending_replies k → rest ≡ [] → AreLookedUp files tariff more lookups → take k more ≡ more
 settled_last files terms tariff lookups old now rest pending_replies k more settled none looked_up =
     settled_all lookups k (sym none ∙ settled.rest_is) more (sym (ap length looked_up ∙ length-map more _))

@@ -28,7 +28,7 @@ use Rattle.replay.specs.Fronts.{lookup_of}
 use Rattle.replay.specs.Serving.{Counted}
 use Rattle.reference.specs.Explaining.{first_offered, row_of, method_of, target_of, row_after, rows_after}
 use Rattle.replay.specs.Rowing.{service_in, turns_away, offered_with}
-use Rattle.replay.specs.declared.desk.Desk.{Desk}
+use Rattle.replay.specs.declared.decider.Decider.{Decider}
 use Rattle.replay.specs.declared.lookup.Lookup.{Lookup}
 use Rattle.reference.proofs.Table.{rows_one, alone}
 use Rattle.reference.proofs.SameAnswer.{status_same}
@@ -49,15 +49,15 @@ answered X files head since outcomes.BadTarget = refl
 answered X files head since outcomes.NotAllowed = refl
 answered X files head since outcomes.NotKnown = refl
 
-away_is : (X : Type 0) (terms : Terms) (away : Bool) (what : Meaning) → turns_away (given {X = X} terms away what) ≡ away
-away_is X terms true what = refl
-away_is X terms false (Request method target version closing since) = answered X terms.files (is_head method) since (outcome terms.files (asked method target))
-away_is X terms false (Bad faults.TooLong) = refl
-away_is X terms false (Bad faults.Block) = refl
-away_is X terms false (Bad faults.Host) = refl
-away_is X terms false (Bad faults.Coding) = refl
-away_is X terms false (Bad faults.Length) = refl
-away_is X terms false (Bad faults.BodySize) = refl
+away_is : (X : Type 0) (files : List File) (terms : Terms) (away : Bool) (what : Meaning) → turns_away (given {X = X} files terms away what) ≡ away
+away_is X files terms true what = refl
+away_is X files terms false (Request method target version closing since) = answered X files (is_head method) since (outcome files (asked method target))
+away_is X files terms false (Bad faults.TooLong) = refl
+away_is X files terms false (Bad faults.Block) = refl
+away_is X files terms false (Bad faults.Host) = refl
+away_is X files terms false (Bad faults.Coding) = refl
+away_is X files terms false (Bad faults.Length) = refl
+away_is X files terms false (Bad faults.BodySize) = refl
 
 -- the decision on an offer, by whether it is turned away
 by_away : (enough : Bool) (own : ℕ) (away : Bool) → away ≡ is_rejected (if enough then (Admitted own) else Rejected)
@@ -73,49 +73,49 @@ decision_is station offers offer away e =
     let any : list_any (rejects station offers) (offer ∷ []) ≡ (is_rejected d || false) = refl in
     by_away _ _ away (e ∙ any ∙ alone (is_rejected d))
 
-offered_is : (terms : Terms) (arrivals : List Arrival) (origin : Origin) (what : Meaning) (service : Option ℕ) (found : Outlook) (away : Bool)
-    → service ≡ service_in (lookup_of terms.files terms.tariff what) → found ≡ outlook (station_for terms) (decided (station_for terms) (offers_of terms arrivals)) origin.tier (tick_in terms origin)
-    → away ≡ list_any (rejects (station_for terms) (offers_of terms arrivals)) (offer_at terms origin what)
-    → option_map (λ s. offered_with found (tick_in terms origin) s away) service ≡ first_offered terms arrivals (offer_at terms origin what)
-offered_is terms arrivals origin (Request method target version closing since) service found away costs finds is =
-    let decision = decision_is (station_for terms) (offers_of terms arrivals) _ away is in
-    rw (costs, finds) (ap (λ d. Some (record { service = (charge_of terms target (is_head method) since (outcome terms.files (asked method target))).service; found = outlook (station_for terms) (decided (station_for terms) (offers_of terms arrivals)) origin.tier (tick_in terms origin); decision = d })) decision)
-offered_is terms arrivals origin (Bad fault) service found away costs finds is = rw costs refl
+offered_is : (files : List File) (terms : Terms) (arrivals : List Arrival) (origin : Origin) (what : Meaning) (service : Option ℕ) (found : Outlook) (away : Bool)
+    → service ≡ service_in (lookup_of files terms.tariff what) → found ≡ outlook (station_for terms) (decided (station_for terms) (offers_of files terms arrivals)) origin.tier (tick_in terms origin)
+    → away ≡ list_any (rejects (station_for terms) (offers_of files terms arrivals)) (offer_at files terms origin what)
+    → option_map (λ s. offered_with found (tick_in terms origin) s away) service ≡ first_offered files terms arrivals (offer_at files terms origin what)
+offered_is files terms arrivals origin (Request method target version closing since) service found away costs finds is =
+    let decision = decision_is (station_for terms) (offers_of files terms arrivals) _ away is in
+    rw (costs, finds) (ap (λ d. Some (record { service = (charge_of files terms target (is_head method) since (outcome files (asked method target))).service; found = outlook (station_for terms) (decided (station_for terms) (offers_of files terms arrivals)) origin.tier (tick_in terms origin); decision = d })) decision)
+offered_is files terms arrivals origin (Bad fault) service found away costs finds is = rw costs refl
 
-pub row_is : (X : Type 0) (terms : Terms) (start : ℕ) (arrivals : List Arrival) (a : Arrival) (origin : Origin) (tick : ℕ) (service : Option ℕ) (found : Outlook) (slip : Slip X) (row : Row)
-    → a.origin ≡ origin → tick ≡ tick_in terms origin → service ≡ service_in (lookup_of terms.files terms.tariff a.message.what)
-    → found ≡ outlook (station_for terms) (decided (station_for terms) (offers_of terms arrivals)) origin.tier tick → slip ≡ slip_of terms start (handled_next terms arrivals a)
+pub row_is : (X : Type 0) (files : List File) (terms : Terms) (start : ℕ) (arrivals : List Arrival) (a : Arrival) (origin : Origin) (tick : ℕ) (service : Option ℕ) (found : Outlook) (slip : Slip X) (row : Row)
+    → a.origin ≡ origin → tick ≡ tick_in terms origin → service ≡ service_in (lookup_of files terms.tariff a.message.what)
+    → found ≡ outlook (station_for terms) (decided (station_for terms) (offers_of files terms arrivals)) origin.tier tick → slip ≡ slip_of files terms start (handled_next files terms arrivals a)
     → row ≡ record { number = slip.number; conn = slip.conn; tick = tick; tier = origin.tier; status = status_of slip.what; offered = option_map (λ s. offered_with found tick s (turns_away slip.what)) service }
-    → row ≡ row_of terms arrivals a
-row_is X terms start arrivals a origin tick service found slip row from timed costs finds slips is =
-    let away = is_turned_away terms arrivals a in
-    let given_by = offered_is terms arrivals a.origin a.message.what service found away costs (rw (from, ← timed) finds) refl in
-    is ∙ rw (timed, slips, ← from, away_is X terms away a.message.what, status_same X (Unit {0}) terms away a.message.what, given_by) refl
+    → row ≡ row_of files terms arrivals a
+row_is X files terms start arrivals a origin tick service found slip row from timed costs finds slips is =
+    let away = is_turned_away files terms arrivals a in
+    let given_by = offered_is files terms arrivals a.origin a.message.what service found away costs (rw (from, ← timed) finds) refl in
+    is ∙ rw (timed, slips, ← from, away_is X files terms away a.message.what, status_same X (Unit {0}) files terms away a.message.what, given_by) refl
 
 -- ---- one row written
 
--- the desk stands for the same messages after it was asked what a request finds
-pub stands_still : (terms : Terms) (arrivals : List Arrival) (desk : Desk) (controller : Standing) → StandsAsBefore desk.controller controller → Counted terms arrivals desk
-    → Counted terms arrivals (record { start = desk.start; controller = controller; totals = desk.totals })
-stands_still terms arrivals desk controller same stands = record {
+-- the decider stands for the same messages after it was asked what a request finds
+pub stands_still : (files : List File) (terms : Terms) (arrivals : List Arrival) (decider : Decider) (controller : Standing) → StandsAsBefore decider.controller controller → Counted files terms arrivals decider
+    → Counted files terms arrivals (record { start = decider.start; controller = controller; totals = decider.totals })
+stands_still files terms arrivals decider controller same stands = record {
   station = same.station ∙ stands.station;
-  fits = same.fits (offers_of terms arrivals) stands.fits;
+  fits = same.fits (offers_of files terms arrivals) stands.fits;
   totals = stands.totals;
   few = stands.few;
 }
 
--- what the desk foresees
-pub foreseen : (terms : Terms) (arrivals : List Arrival) (desk : Desk) (found : Outlook) (tier tick : ℕ) → Counted terms arrivals desk
-    → ((offers : List Offer) → ControllerAfter offers desk.controller → found ≡ outlook (station_of desk.controller) (decided (station_of desk.controller) offers) tier tick)
-    → found ≡ outlook (station_for terms) (decided (station_for terms) (offers_of terms arrivals)) tier tick
-foreseen terms arrivals desk found tier tick stands finds = rw stands.station at (finds (offers_of terms arrivals) stands.fits)
+-- what the decider foresees
+pub foreseen : (files : List File) (terms : Terms) (arrivals : List Arrival) (decider : Decider) (found : Outlook) (tier tick : ℕ) → Counted files terms arrivals decider
+    → ((offers : List Offer) → ControllerAfter offers decider.controller → found ≡ outlook (station_of decider.controller) (decided (station_of decider.controller) offers) tier tick)
+    → found ≡ outlook (station_for terms) (decided (station_for terms) (offers_of files terms arrivals)) tier tick
+foreseen files terms arrivals decider found tier tick stands finds = rw stands.station at (finds (offers_of files terms arrivals) stands.fits)
 
-pub row_written : (terms : Terms) (arrivals : List Arrival) (a : Arrival) (row : Row) (what : Meaning) (method target : List ℕ) → row ≡ row_of terms arrivals a → a.message.what ≡ what
-    → method ≡ method_of what → target ≡ target_of what → row_text row method target ≡ rows_after terms arrivals (a ∷ [])
+pub row_written : (files : List File) (terms : Terms) (arrivals : List Arrival) (a : Arrival) (row : Row) (what : Meaning) (method target : List ℕ) → row ≡ row_of files terms arrivals a → a.message.what ≡ what
+    → method ≡ method_of what → target ≡ target_of what → row_text row method target ≡ rows_after files terms arrivals (a ∷ [])
 unfolding row_after
-row_written terms arrivals a row what method target is meaning methods targets =
-    ap (λ r. row_text r method target) is ∙ ap (λ m. row_text (row_of terms arrivals a) m target) (methods ∙ ap method_of (sym meaning))
-    ∙ ap (λ t. row_text (row_of terms arrivals a) (method_of a.message.what) t) (targets ∙ ap target_of (sym meaning)) ∙ sym (rows_one terms arrivals a)
+row_written files terms arrivals a row what method target is meaning methods targets =
+    ap (λ r. row_text r method target) is ∙ ap (λ m. row_text (row_of files terms arrivals a) m target) (methods ∙ ap method_of (sym meaning))
+    ∙ ap (λ t. row_text (row_of files terms arrivals a) (method_of a.message.what) t) (targets ∙ ap target_of (sym meaning)) ∙ sym (rows_one files terms arrivals a)
 
 -- how long a message takes, as it was looked into
 pub costs_known : (files : List File) (tariff : Tariff) (said what : Meaning) (lookup : Lookup) (service : Option ℕ)

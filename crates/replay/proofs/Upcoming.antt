@@ -12,7 +12,7 @@ use Rattle.cost_model.specs.Reference.{Tariff}
 use Rattle.responses.specs.Reference.{record_text}
 use Rattle.reference.specs.Reference.{Terms, Handled, slip_of, replies_of, reply_of}
 use Rattle.arrivals.specs.Reference.{Arrival}
-use Rattle.replay.specs.Serving.{DeskAfter, records_after, Written, WrittenInPart}
+use Rattle.replay.specs.Serving.{DeciderAfter, records_after, Written, WrittenInPart}
 use Rattle.replay.specs.Fronts.{front_value}
 use Rattle.replay.specs.Backs.{slip_of_pending, reply_to}
 use Rattle.arrivals.specs.Batches.{joined}
@@ -22,7 +22,7 @@ use Rattle.captures.specs.Passes.{IsWriteOrMemory}
 use Rattle.arrivals.specs.declared.incoming.Incoming.{Incoming}
 use Rattle.replay.specs.declared.lookup.LookedUp.{LookedUp}
 use Rattle.replay.specs.declared.pending.PendingReply.{PendingReply}
-use Rattle.replay.specs.declared.desk.Desk.{Desk}
+use Rattle.replay.specs.declared.decider.Decider.{Decider}
 use Rattle.captures.specs.declared.pass_fault.PassFault.{PassFault}
 use Rattle.captures.specs.declared.pass_fault.PassFault.TheVariants as faults
 use Rattle.reference.proofs.SameAnswer.{reply_is}
@@ -75,34 +75,34 @@ in_time_drop earlier [] (suc n) h = tt
 in_time_drop earlier (a ∷ more) (suc n) h = rw (append_assoc earlier (a ∷ []) (take n more)) at (in_time_drop (earlier ++ a ∷ []) more n h.3)
 
 -- the first of the messages
-pub first_come : (terms : Terms) (arrivals more : List Arrival) (messages within : List Incoming) (desk : Desk) (n : ℕ)
-    → Upcoming terms arrivals more messages desk → within ≡ take n messages → Upcoming terms arrivals (take n more) within desk
-first_come terms arrivals more messages within desk n up e = record {
+pub first_come : (files : List File) (terms : Terms) (arrivals more : List Arrival) (messages within : List Incoming) (decider : Decider) (n : ℕ)
+    → Upcoming files terms arrivals more messages decider → within ≡ take n messages → Upcoming files terms arrivals (take n more) within decider
+first_come files terms arrivals more messages within decider n up e = record {
   stands = up.stands;
   are = map_take incoming_of n more ∙ ap (take n) up.are ∙ sym e;
   timely = in_time_take arrivals more n up.timely;
 }
 
-pub come_count : (terms : Terms) (arrivals more : List Arrival) (messages : List Incoming) (desk : Desk) → Upcoming terms arrivals more messages desk → length more ≡ length messages
-come_count terms arrivals more messages desk up = sym (length-map more incoming_of) ∙ ap length up.are
+pub come_count : (files : List File) (terms : Terms) (arrivals more : List Arrival) (messages : List Incoming) (decider : Decider) → Upcoming files terms arrivals more messages decider → length more ≡ length messages
+come_count files terms arrivals more messages decider up = sym (length-map more incoming_of) ∙ ap length up.are
 
-pub take_count : (terms : Terms) (arrivals more : List Arrival) (messages : List Incoming) (desk : Desk) → Upcoming terms arrivals more messages desk → take (length messages) more ≡ more
-take_count terms arrivals more messages desk up = rw (← come_count terms arrivals more messages desk up) (take_all more)
+pub take_count : (files : List File) (terms : Terms) (arrivals more : List Arrival) (messages : List Incoming) (decider : Decider) → Upcoming files terms arrivals more messages decider → take (length messages) more ≡ more
+take_count files terms arrivals more messages decider up = rw (← come_count files terms arrivals more messages decider up) (take_all more)
 
 -- no message
-pub none_come : (terms : Terms) (arrivals more : List Arrival) (messages : List Incoming) (desk : Desk) → Upcoming terms arrivals more messages desk → messages ≡ [] → more ≡ []
-none_come terms arrivals more messages desk up none = go more (come_count terms arrivals more messages desk up ∙ ap length none)
+pub none_come : (files : List File) (terms : Terms) (arrivals more : List Arrival) (messages : List Incoming) (decider : Decider) → Upcoming files terms arrivals more messages decider → messages ≡ [] → more ≡ []
+none_come files terms arrivals more messages decider up none = go more (come_count files terms arrivals more messages decider up ∙ ap length none)
   where
     go : (xs : List Arrival) → length xs ≡ 0 → xs ≡ []
     go [] e = refl
     go (x ∷ xs) e = absurd (let z : ⊥ = omega (arith, e) in z)
 
-pub none_stands : (terms : Terms) (arrivals more : List Arrival) (messages : List Incoming) (desk : Desk) → Upcoming terms arrivals more messages desk → messages ≡ [] → DeskAfter terms (arrivals ++ more) desk
-none_stands terms arrivals more messages desk up none = rw (none_come terms arrivals more messages desk up none, append-nil arrivals) up.stands
+pub none_stands : (files : List File) (terms : Terms) (arrivals more : List Arrival) (messages : List Incoming) (decider : Decider) → Upcoming files terms arrivals more messages decider → messages ≡ [] → DeciderAfter files terms (arrivals ++ more) decider
+none_stands files terms arrivals more messages decider up none = rw (none_come files terms arrivals more messages decider up none, append-nil arrivals) up.stands
 
-pub none_written : (terms : Terms) (arrivals more : List Arrival) (messages : List Incoming) (desk : Desk) (old : Option (List ℕ)) → Upcoming terms arrivals more messages desk → messages ≡ []
-    → Written terms desk.start arrivals more old old
-none_written terms arrivals more messages desk old up none = rw (none_come terms arrivals more messages desk up none) (written_none terms desk.start arrivals old)
+pub none_written : (files : List File) (terms : Terms) (arrivals more : List Arrival) (messages : List Incoming) (decider : Decider) (old : Option (List ℕ)) → Upcoming files terms arrivals more messages decider → messages ≡ []
+    → Written files terms decider.start arrivals more old old
+none_written files terms arrivals more messages decider old up none = rw (none_come files terms arrivals more messages decider up none) (written_none files terms decider.start arrivals old)
 
 -- ---- between the floors
 
@@ -111,16 +111,16 @@ pub looked_up_are : (files : List File) (tariff table : Tariff) (arrivals : List
 looked_up_are files tariff table arrivals messages lookups same are e =
     e ∙ ap (λ (t : Tariff). map (front_value files t) messages) same ∙ ap (map (front_value files tariff)) (sym are) ∙ map_map (front_value files tariff) incoming_of arrivals
 
-pub replies_are : (X : Type 0) (terms : Terms) (start : ℕ) (hs : List Handled) (pending_replies : List (PendingReply X)) (replies : List (ℕ × ℕ × List ℕ))
-    → map slip_of_pending pending_replies ≡ map (slip_of {X = X} terms start) hs → replies ≡ map (λ t. reply_to terms.files (slip_of_pending t)) pending_replies → replies ≡ replies_of terms start hs
-replies_are X terms start hs pending_replies replies slips e =
-    e ∙ sym (map_map (reply_to terms.files) (slip_of_pending {X = X}) pending_replies) ∙ ap (map (reply_to terms.files)) slips ∙ each hs
+pub replies_are : (X : Type 0) (files : List File) (terms : Terms) (start : ℕ) (hs : List Handled) (pending_replies : List (PendingReply X)) (replies : List (ℕ × ℕ × List ℕ))
+    → map slip_of_pending pending_replies ≡ map (slip_of {X = X} files terms start) hs → replies ≡ map (λ t. reply_to files (slip_of_pending t)) pending_replies → replies ≡ replies_of files terms start hs
+replies_are X files terms start hs pending_replies replies slips e =
+    e ∙ sym (map_map (reply_to files) (slip_of_pending {X = X}) pending_replies) ∙ ap (map (reply_to files)) slips ∙ each hs
   where
-    each : (hs : List Handled) → map (reply_to terms.files) (map (slip_of {X = X} terms start) hs) ≡ replies_of terms start hs
+    each : (hs : List Handled) → map (reply_to files) (map (slip_of {X = X} files terms start) hs) ≡ replies_of files terms start hs
     each [] = refl
     each (h ∷ hs) =
-        let one : reply_to terms.files (slip_of {X = X} terms start h) ≡ reply_of terms start h = reply_is terms start h (slip_of {X = X} terms start h) (reply_to terms.files (slip_of {X = X} terms start h)) refl refl in
-        ap (λ r. r ∷ map (reply_to terms.files) (map (slip_of {X = X} terms start) hs)) one ∙ ap (λ rs. reply_of terms start h ∷ rs) (each hs)
+        let one : reply_to files (slip_of {X = X} files terms start h) ≡ reply_of files terms start h = reply_is files terms start h (slip_of {X = X} files terms start h) (reply_to files (slip_of {X = X} files terms start h)) refl refl in
+        ap (λ r. r ∷ map (reply_to files) (map (slip_of {X = X} files terms start) hs)) one ∙ ap (λ rs. reply_of files terms start h ∷ rs) (each hs)
 
 -- ---- writing
 
@@ -183,10 +183,10 @@ err_more (Ok x) P Q more h = tt
 err_more (Err f) P Q more h = more h
 
 -- nothing is written yet
-pub unwritten : {T : Type 0} (r : Result T PassFault) (terms : Terms) (messages : List Incoming) (desk : Desk) (old : Option (List ℕ))
-    → OnErr r ((arrivals more : List Arrival) → Upcoming terms arrivals more messages desk → WrittenInPart terms desk.start arrivals more old old)
-unwritten (Ok x) terms messages desk old = tt
-unwritten (Err f) terms messages desk old = λ arrivals more up. prefix_none old (records_after terms desk.start arrivals more)
+pub unwritten : {T : Type 0} (r : Result T PassFault) (files : List File) (terms : Terms) (messages : List Incoming) (decider : Decider) (old : Option (List ℕ))
+    → OnErr r ((arrivals more : List Arrival) → Upcoming files terms arrivals more messages decider → WrittenInPart files terms decider.start arrivals more old old)
+unwritten (Ok x) files terms messages decider old = tt
+unwritten (Err f) files terms messages decider old = λ arrivals more up. prefix_none old (records_after files terms decider.start arrivals more)
 
 pub no_messages : (n : ℕ) (xs : List Incoming) → n ≡ length xs → (n == 0) ≡ true → xs ≡ []
 no_messages n [] e t = refl
@@ -195,39 +195,39 @@ no_messages n (x ∷ xs) e t = absurd (let z : ⊥ = grind (arith, e, t) in z)
 -- ---- part after part
 
 -- the first k of the messages are served
-pub record Served (terms : Terms) (messages : List Incoming) (old now : Desk) (before after : Option (List ℕ)) (rest : List (List Incoming)) : Type 0 where
+pub record Served (files : List File) (terms : Terms) (messages : List Incoming) (old now : Decider) (before after : Option (List ℕ)) (rest : List (List Incoming)) : Type 0 where
   pub count : ℕ
   pub below : count ≤ length messages
   pub rest_is : joined rest ≡ drop count messages
-  pub stands : (arrivals more : List Arrival) → Upcoming terms arrivals more messages old → DeskAfter terms (arrivals ++ take count more) now
-  pub written : (arrivals more : List Arrival) → Upcoming terms arrivals more messages old → Written terms old.start arrivals (take count more) before after
+  pub stands : (arrivals more : List Arrival) → Upcoming files terms arrivals more messages old → DeciderAfter files terms (arrivals ++ take count more) now
+  pub written : (arrivals more : List Arrival) → Upcoming files terms arrivals more messages old → Written files terms old.start arrivals (take count more) before after
   pub start : now.start ≡ old.start
 
-pub served_none : (terms : Terms) (messages : List Incoming) (old : Desk) (before : Option (List ℕ)) (rest : List (List Incoming)) → joined rest ≡ messages → Served terms messages old old before before rest
-served_none terms messages old before rest e = record {
+pub served_none : (files : List File) (terms : Terms) (messages : List Incoming) (old : Decider) (before : Option (List ℕ)) (rest : List (List Incoming)) → joined rest ≡ messages → Served files terms messages old old before before rest
+served_none files terms messages old before rest e = record {
   count = 0;
   below = omega arith;
   rest_is = e;
   stands = λ arrivals more up. rw (append-nil arrivals) up.stands;
-  written = λ arrivals more up. written_none terms old.start arrivals before;
+  written = λ arrivals more up. written_none files terms old.start arrivals before;
   start = refl;
 }
 
 -- what comes next of the messages
-pub next_come : (terms : Terms) (messages part : List Incoming) (old now : Desk) (before after : Option (List ℕ)) (rest following : List (List Incoming)) (arrivals more : List Arrival)
-    → (s : Served terms messages old now before after rest) → rest ≡ part ∷ following → Upcoming terms arrivals more messages old
-    → Upcoming terms (arrivals ++ take s.count more) (take (length part) (drop s.count more)) part now
-next_come terms messages part old now before after rest following arrivals more s steps up = record {
+pub next_come : (files : List File) (terms : Terms) (messages part : List Incoming) (old now : Decider) (before after : Option (List ℕ)) (rest following : List (List Incoming)) (arrivals more : List Arrival)
+    → (s : Served files terms messages old now before after rest) → rest ≡ part ∷ following → Upcoming files terms arrivals more messages old
+    → Upcoming files terms (arrivals ++ take s.count more) (take (length part) (drop s.count more)) part now
+next_come files terms messages part old now before after rest following arrivals more s steps up = record {
   stands = s.stands arrivals more up;
   are = map_take incoming_of (length part) (drop s.count more) ∙ ap (take (length part)) (map_drop incoming_of s.count more ∙ ap (drop s.count) up.are ∙ sym s.rest_is ∙ ap joined steps) ∙ take-append_seam part (joined following);
   timely = in_time_take (arrivals ++ take s.count more) (drop s.count more) (length part) (in_time_drop arrivals more s.count up.timely);
 }
 
-pub next_come_as : (terms : Terms) (messages taken part : List Incoming) (old now : Desk) (before after : Option (List ℕ)) (rest following : List (List Incoming)) (arrivals more : List Arrival)
-    → (s : Served terms messages old now before after rest) → rest ≡ part ∷ following → taken ≡ part → Upcoming terms arrivals more messages old
-    → Upcoming terms (arrivals ++ take s.count more) (take (length part) (drop s.count more)) taken now
-next_come_as terms messages taken part old now before after rest following arrivals more s steps same up =
-    let next = next_come terms messages part old now before after rest following arrivals more s steps up in
+pub next_come_as : (files : List File) (terms : Terms) (messages taken part : List Incoming) (old now : Decider) (before after : Option (List ℕ)) (rest following : List (List Incoming)) (arrivals more : List Arrival)
+    → (s : Served files terms messages old now before after rest) → rest ≡ part ∷ following → taken ≡ part → Upcoming files terms arrivals more messages old
+    → Upcoming files terms (arrivals ++ take s.count more) (take (length part) (drop s.count more)) taken now
+next_come_as files terms messages taken part old now before after rest following arrivals more s steps same up =
+    let next = next_come files terms messages part old now before after rest following arrivals more s steps up in
     record { stands = next.stands; are = next.are ∙ sym same; timely = next.timely }
 
 -- how many they are
@@ -245,14 +245,14 @@ part_fits messages part rest following k below e steps =
     length_drop (suc k) (x ∷ xs) le = let h = length_drop k xs (omega (arith, le)) in omega (arith, h)
 
 -- how many are answered
-pub answered_now : (terms : Terms) (messages part : List Incoming) (old now : Desk) (before after : Option (List ℕ)) (rest following : List (List Incoming)) (arrivals more : List Arrival)
-    → (s : Served terms messages old now before after rest) → rest ≡ part ∷ following → Upcoming terms arrivals more messages old
+pub answered_now : (files : List File) (terms : Terms) (messages part : List Incoming) (old now : Decider) (before after : Option (List ℕ)) (rest following : List (List Incoming)) (arrivals more : List Arrival)
+    → (s : Served files terms messages old now before after rest) → rest ≡ part ∷ following → Upcoming files terms arrivals more messages old
     → (now.totals.answered ≡ old.totals.answered + s.count) × (s.count + length part ≤ length messages)
-answered_now terms messages part old now before after rest following arrivals more s steps up =
-    let first = answered_is terms arrivals old up.stands.counted in
-    let later = answered_is terms (arrivals ++ take s.count more) now (s.stands arrivals more up).counted in
+answered_now files terms messages part old now before after rest following arrivals more s steps up =
+    let first = answered_is files terms arrivals old up.stands.counted in
+    let later = answered_is files terms (arrivals ++ take s.count more) now (s.stands arrivals more up).counted in
     let len = length-append arrivals (take s.count more) in
-    let counted = come_count terms arrivals more messages old up in
+    let counted = come_count files terms arrivals more messages old up in
     let below = s.below in
     let short : length (take s.count more) ≡ s.count = length-take-le s.count more (omega (arith, below, counted)) in
     (omega (arith, first, later, len, short), part_fits messages part rest following s.count s.below s.rest_is steps)
@@ -267,30 +267,30 @@ taken_after k n m more le = take_add k m more ∙ ap (λ xs. take k more ++ xs) 
     take_take (suc m) (suc n) [] le = refl
     take_take (suc m) (suc n) (x ∷ xs) le = ap (λ ys. x ∷ ys) (take_take m n xs (omega (arith, le)))
 
-pub served_more : (terms : Terms) (messages part : List Incoming) (old now next : Desk) (before after later : Option (List ℕ)) (rest following : List (List Incoming))
-    → Served terms messages old now before after rest → rest ≡ part ∷ following → next.start ≡ now.start
-    → ((arrivals more : List Arrival) → Upcoming terms arrivals more part now → DeskAfter terms (arrivals ++ more) next)
-    → ((arrivals more : List Arrival) → Upcoming terms arrivals more part now → Written terms now.start arrivals more after later)
-    → Served terms messages old next before later following
-served_more terms messages part old now next before after later rest following s steps start stands written =
+pub served_more : (files : List File) (terms : Terms) (messages part : List Incoming) (old now next : Decider) (before after later : Option (List ℕ)) (rest following : List (List Incoming))
+    → Served files terms messages old now before after rest → rest ≡ part ∷ following → next.start ≡ now.start
+    → ((arrivals more : List Arrival) → Upcoming files terms arrivals more part now → DeciderAfter files terms (arrivals ++ more) next)
+    → ((arrivals more : List Arrival) → Upcoming files terms arrivals more part now → Written files terms now.start arrivals more after later)
+    → Served files terms messages old next before later following
+served_more files terms messages part old now next before after later rest following s steps start stands written =
     let n = length part in record {
       count = s.count + n;
       below = part_fits messages part rest following s.count s.below s.rest_is steps;
       rest_is = sym (drop-append_seam part (joined following)) ∙ ap (drop n) (ap joined (sym steps) ∙ s.rest_is) ∙ drop-drop n s.count messages;
       stands = λ arrivals more up.
           rw (take_add s.count n more, ← append_assoc arrivals (take s.count more) (take n (drop s.count more)))
-          (stands (arrivals ++ take s.count more) (take n (drop s.count more)) (next_come terms messages part old now before after rest following arrivals more s steps up));
+          (stands (arrivals ++ take s.count more) (take n (drop s.count more)) (next_come files terms messages part old now before after rest following arrivals more s steps up));
       written = λ arrivals more up.
-          rw (take_add s.count n more) (written_more terms old.start arrivals (take s.count more) (take n (drop s.count more)) before after later (s.written arrivals more up)
-          (rw s.start at (written (arrivals ++ take s.count more) (take n (drop s.count more)) (next_come terms messages part old now before after rest following arrivals more s steps up))));
+          rw (take_add s.count n more) (written_more files terms old.start arrivals (take s.count more) (take n (drop s.count more)) before after later (s.written arrivals more up)
+          (rw s.start at (written (arrivals ++ take s.count more) (take n (drop s.count more)) (next_come files terms messages part old now before after rest following arrivals more s steps up))));
       start = start ∙ s.start;
     }
 
 -- all are served
-pub served_all : (terms : Terms) (messages : List Incoming) (old now : Desk) (before after : Option (List ℕ)) (rest : List (List Incoming)) (arrivals more : List Arrival)
-    → (s : Served terms messages old now before after rest) → rest ≡ [] → Upcoming terms arrivals more messages old → take s.count more ≡ more
-served_all terms messages old now before after rest arrivals more s none up =
-    all s.count messages (sym (ap joined (sym none) ∙ s.rest_is)) more (come_count terms arrivals more messages old up)
+pub served_all : (files : List File) (terms : Terms) (messages : List Incoming) (old now : Decider) (before after : Option (List ℕ)) (rest : List (List Incoming)) (arrivals more : List Arrival)
+    → (s : Served files terms messages old now before after rest) → rest ≡ [] → Upcoming files terms arrivals more messages old → take s.count more ≡ more
+served_all files terms messages old now before after rest arrivals more s none up =
+    all s.count messages (sym (ap joined (sym none) ∙ s.rest_is)) more (come_count files terms arrivals more messages old up)
   where
     all : {A B : Type 0} (k : ℕ) (xs : List A) → drop k xs ≡ [] → (ys : List B) → length ys ≡ length xs → take k ys ≡ ys
     all zero [] e [] l = refl

@@ -14,42 +14,47 @@ use Rattle.arrivals.specs.SeatStates.{SeatState}
 use Rattle.reference.specs.Reference.{Terms, handled, replies_of, text_before_stop}
 use Rattle.replay.specs.Serving.{Serves}
 use Rattle.replay.specs.Waiting.{Waiting, connections_of}
-use Rattle.replay.specs.declared.desk.Desk.{Desk}
+use Rattle.replay.specs.declared.decider.Decider.{Decider}
+use Rattle.paths.specs.declared.file.File.{File}
 
 -- These records were read, and the replies to the messages that arrived with them, so many at most, were written after
 -- what was there before the replay.
-pub record HasAnswered (terms : Terms) (most : ℕ) (version : Version) (records : List Record) (arrivals : List Arrival)
-    (places : List SeatState) (desk : Desk) (begun written : Option (List ℕ)) : Type 0 where
-  pub serves : Serves terms records arrivals (connections_of places) desk
-  pub replies : Appends begun written (text_before_stop (replies_of terms desk.start (handled terms arrivals)))
+pub record HasAnswered (files : List File) (terms : Terms) (most : ℕ) (version : Version) (records : List Record)
+    (arrivals : List Arrival)
+    (places : List SeatState) (decider : Decider) (begun written : Option (List ℕ)) : Type 0 where
+  pub serves : Serves files terms records arrivals (connections_of places) decider
+  pub replies : Appends begun written (text_before_stop (replies_of files terms decider.start
+      (handled files terms arrivals)))
   pub limit : most ≡ (format_of version).max_messages
-  pub within : desk.totals.answered ≤ most
+  pub within : decider.totals.answered ≤ most
 
 -- Some records were read of the capture, and answered; nothing waits at the seats. When the replay began, `text` was
 -- ahead to be read, and `begun` was written.
-pub record Between (terms : Terms) (most : ℕ) (version : Version) (text begun : Option (List ℕ)) (progress : Progress)
-    (ahead : Option (List ℕ)) (tiers : List ℕ) (places : List SeatState) (desk : Desk)
+pub record Between (files : List File) (terms : Terms) (most : ℕ) (version : Version) (text begun : Option (List ℕ))
+    (progress : Progress)
+    (ahead : Option (List ℕ)) (tiers : List ℕ) (places : List SeatState) (decider : Decider)
     (written : Option (List ℕ)) : Type 0 where
   pub records : List Record
   pub arrivals : List Arrival
-  pub read : ReaderAfter version text desk.start records progress ahead
+  pub read : ReaderAfter version text decider.start records progress ahead
   pub tiers_are : AreTiers records tiers
   pub idle : Waiting [] places
-  pub answered : HasAnswered terms most version records arrivals places desk begun written
+  pub answered : HasAnswered files terms most version records arrivals places decider begun written
 
 -- all records of the capture were read, and answered
-pub record AtEnd (terms : Terms) (most : ℕ) (version : Version) (text begun : Option (List ℕ))
-    (places : List SeatState) (desk : Desk) (written : Option (List ℕ)) : Type 0 where
+pub record AtEnd (files : List File) (terms : Terms) (most : ℕ) (version : Version) (text begun : Option (List ℕ))
+    (places : List SeatState) (decider : Decider) (written : Option (List ℕ)) : Type 0 where
   pub records : List Record
   pub arrivals : List Arrival
-  pub rules : IsCapture version desk.start records
-  pub whole : WhereKnown text (λ bytes. IsCaptureText version bytes desk.start records)
-  pub answered : HasAnswered terms most version records arrivals places desk begun written
+  pub rules : IsCapture version decider.start records
+  pub whole : WhereKnown text (λ bytes. IsCaptureText version bytes decider.start records)
+  pub answered : HasAnswered files terms most version records arrivals places decider begun written
 
 -- a step was taken, after which there may be more records or not
-abbrev pub Stepped : Bool → Terms → ℕ → Version → (text begun : Option (List ℕ)) → Progress → Option (List ℕ) → List ℕ
-    → List SeatState → Desk → Option (List ℕ) → Type 0
-Stepped true terms most version text begun progress ahead tiers places desk written =
-    Between terms most version text begun progress ahead tiers places desk written
-Stepped false terms most version text begun progress ahead tiers places desk written =
-    AtEnd terms most version text begun places desk written
+abbrev pub Stepped : Bool → List File → Terms → ℕ → Version → (text begun : Option (List ℕ)) → Progress
+    → Option (List ℕ) → List ℕ
+    → List SeatState → Decider → Option (List ℕ) → Type 0
+Stepped true files terms most version text begun progress ahead tiers places decider written =
+    Between files terms most version text begun progress ahead tiers places decider written
+Stepped false files terms most version text begun progress ahead tiers places decider written =
+    AtEnd files terms most version text begun places decider written

@@ -7,6 +7,7 @@ use Rattle.reference.specs.declared.summary.Outcome.{Outcome}
 use Rattle.reference.specs.Reference.{Terms, Answers}
 use Rattle.reference.specs.Texts.{Texts, reply_texts}
 use Rattle.reference.specs.Outcomes.{Leaves}
+use Rattle.paths.specs.declared.file.File.{File}
 
 -- what stands where it stopped, as a record
 pub record Stopped (t : Texts) (input ahead old new : Option (List ℕ)) (f : PassFault) : Type 0 where
@@ -14,9 +15,9 @@ pub record Stopped (t : Texts) (input ahead old new : Option (List ℕ)) (f : Pa
 
 -- All that is known of a replay: what stands at a fault, which device is blamed, and what stands at its end. `input`
 -- was ahead before it, `ahead` is after it, and each device had failed so often before it and after it.
-pub record Replayed (terms : Terms) (input ahead old new : Option (List ℕ))
+pub record Replayed (files : List File) (terms : Terms) (input ahead old new : Option (List ℕ))
     (unread unread_after unwritten unwritten_after : ℕ) (result : Result Outcome PassFault) : Type 0 where
-  pub fault : IfErr result (Leaves (reply_texts terms) input ahead old new)
+  pub fault : IfErr result (Leaves (reply_texts files terms) input ahead old new)
   pub reads : BlamesReader reader_failures leaves_reads_untold unread unread_after result
   pub writes : CountsBy writer_failures unwritten unwritten_after result
-  pub ok : IfOk result (Answers terms input old new)
+  pub ok : IfOk result (Answers files terms input old new)

@@ -10,7 +10,8 @@ use Rattle.std.specs.List.{list_any}
 use Rattle.admission.specs.Reference.{Offer, tick_from}
 use Rattle.admission.specs.After.{ControllerAfter}
 use Rattle.admission.specs.Standing.{station_of}
-use Rattle.replay.specs.declared.desk.Desk.{Desk}
+use Rattle.replay.specs.declared.decider.Decider.{Decider}
+use Rattle.paths.specs.declared.file.File.{File}
 
 -- How many messages there were of each kind, and how long the admitted requests took.
 
@@ -31,13 +32,13 @@ abbrev pub no_counts : Counts
 no_counts = record { by_status = map (λ status. 0) statuses }
 
 -- what became of these arrivals
-abbrev pub totals_of : Terms → List Arrival → Totals
-totals_of terms arrivals = record {
+abbrev pub totals_of : List File → Terms → List Arrival → Totals
+totals_of files terms arrivals = record {
   answered = length arrivals;
-  counts = counts_of terms (handled terms arrivals);
+  counts = counts_of files terms (handled files terms arrivals);
   bypassed = bypassed_of arrivals;
-  rejected = rejected_of (handled terms arrivals);
-  samples = samples_of (station_for terms) (offers_of terms arrivals);
+  rejected = rejected_of (handled files terms arrivals);
+  samples = samples_of (station_for terms) (offers_of files terms arrivals);
 }
 
 -- the totals with one more message, of this status
@@ -50,7 +51,7 @@ noted t status breaks = record {
   samples = t.samples;
 }
 
--- What an offer changes at the desk.
+-- What an offer changes of the decider.
 
 -- the totals once these samples are taken, and its next message was turned away or not
 abbrev pub decided_totals : Totals → List ℕ → Bool → Totals
@@ -63,7 +64,7 @@ decided_totals t samples away = record {
 }
 
 -- after these offers the next (one, or none) was decided on: whether it was turned away
-pub record Decides (offers next : List Offer) (old new : Desk) (away : Bool) : Type 0 where
+pub record Decides (offers next : List Offer) (old new : Decider) (away : Bool) : Type 0 where
   pub station : station_of new.controller ≡ station_of old.controller
   pub fits : ControllerAfter (offers ++ next) new.controller
   pub is_away : away ≡ list_any (rejects (station_of old.controller) offers) next

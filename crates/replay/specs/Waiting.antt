@@ -12,8 +12,8 @@ use Rattle.arrivals.specs.declared.connections.Connection.{Connection}
 use Rattle.arrivals.specs.declared.incoming.Incoming.{Incoming}
 use Rattle.arrivals.specs.declared.incoming.Origin.{Origin}
 use Rattle.reference.specs.Reference.{Terms}
-use Rattle.replay.specs.Serving.{Serves, DeskAfter, AreBy}
-use Rattle.replay.specs.declared.desk.Desk.{Desk}
+use Rattle.replay.specs.Serving.{Serves, DeciderAfter, AreBy}
+use Rattle.replay.specs.declared.decider.Decider.{Decider}
 use Rattle.paths.specs.declared.file.File.{File}
 use Rattle.cost_model.specs.Reference.{Tariff}
 use Rattle.replay.specs.Fronts.{front_value}
@@ -48,18 +48,19 @@ abbrev pub Waiting : List Record → List SeatState → Type 0
 Waiting rs places = (c : ℕ) → ((seat_at places c).waiting ≡ sent_to c rs) × ((seat_at places c).lists ≡ [])
 
 -- These records come next, after others that were served: their pieces wait at the seats, and came from these origins.
-pub record ComeNext (terms : Terms) (records rs : List Record) (arrivals : List Arrival) (places : List SeatState)
-    (origins : List Origin) (desk : Desk) : Type 0 where
-  pub serves : Serves terms records arrivals (connections_of places) desk
+pub record ComeNext (files : List File) (terms : Terms) (records rs : List Record) (arrivals : List Arrival)
+    (places : List SeatState)
+    (origins : List Origin) (decider : Decider) : Type 0 where
+  pub serves : Serves files terms records arrivals (connections_of places) decider
   pub waiting : Waiting rs places
   pub origins_are : origins ≡ origins_after records rs
   pub version : Version
-  pub rules : IsCapture version desk.start (records ++ rs)
+  pub rules : IsCapture version decider.start (records ++ rs)
   pub small : sizes_of (records ++ rs) ≤ longest_text
 
 -- these messages come next, after those that were served: they are those of the arrivals, in time
-pub record Upcoming (terms : Terms) (arrivals more : List Arrival) (messages : List Incoming)
-    (desk : Desk) : Type 0 where
-  pub stands : DeskAfter terms arrivals desk
+pub record Upcoming (files : List File) (terms : Terms) (arrivals more : List Arrival) (messages : List Incoming)
+    (decider : Decider) : Type 0 where
+  pub stands : DeciderAfter files terms arrivals decider
   pub are : AreOf more messages
   pub timely : InTime arrivals more

@@ -8,7 +8,6 @@ ghost use Rattle.captures.specs.declared.record.Record.{Record as ARecord};
 ghost use Rattle.captures.specs.declared.version.Version.{Version as AVersion};
 ghost use Rattle.captures.specs.Passes.{BlamesReader, leaves_reads_untold, reader_failures, writer_failures};
 ghost use Rattle.arrivals.specs.Reference.{Arrival};
-ghost use Rattle.reference.specs.Reference.{terms_of};
 ghost use Rattle.reference.specs.Outcomes.{IfTooMany, IfCutShort, IsOwn, Leaves};
 ghost use Rattle.reference.specs.Texts.{reply_texts};
 ghost use Rattle.replay.specs.Between.{Between, Stepped};
@@ -16,7 +15,7 @@ ghost use Rattle.replay.specs.Lots.{AreFloorSteps};
 ghost use Rattle.replay.specs.Steps.{AnswersBatch, FillsWithBatch, AnswersBatchInPart};
 ghost use Rattle.replay.specs.Waiting.{ComeNext, Waiting};
 
-use crate::desk::Desk;
+use crate::decider::Decider;
 use crate::lots::{Lot, LotValue};
 use crate::parts::{Floors, serve_parts};
 use crate::plain::answer_record;
@@ -50,27 +49,27 @@ fn serve_batch<
     floors: &Floors<'_, '_, F, K, C, Q, G, T>,
     seats: Seats,
     origins: &[Origin],
-    desk: &mut Desk,
+    decider: &mut Decider,
     writer: &mut Output<W>,
 ) -> Result<Seats, ReplayFault>
     requires can { AreFloorSteps F.files K.tariff C.step C.content C.count }
-    requires start { desk.old.start ≤ max_start }
+    requires start { decider.old.start ≤ max_start }
     requires next { (records : List ARecord) × (rs : List ARecord) × (arrivals : List Arrival)
-        × ComeNext (terms_of F.files floors.now.serving.now.server) records rs arrivals seats origins.now desk.old }
-    requires limit { (desk.old.totals.answered ≤ floors.now.most)
+        × ComeNext F.files floors.now.serving.now.server.served records rs arrivals seats origins.now decider.old }
+    requires limit { (decider.old.totals.answered ≤ floors.now.most)
         × (floors.now.most ≤ MAX_MESSAGES) }
     requires failures { CanFail writer.old }
     ensures serves { IfOk result
-        (λ after. AnswersBatch (terms_of F.files floors.now.serving.now.server) seats origins.now desk.old
-        after desk.new writer.old.bytes writer.new.bytes) }
+        (λ after. AnswersBatch F.files floors.now.serving.now.server.served seats origins.now decider.old
+        after decider.new writer.old.bytes writer.new.bytes) }
     ensures idle { IfOk result (Waiting []) }
-    ensures start { OnOk result (desk.new.start ≡ desk.old.start) }
-    ensures within { OnOk result (desk.new.totals.answered ≤ floors.now.most) }
+    ensures start { OnOk result (decider.new.start ≡ decider.old.start) }
+    ensures within { OnOk result (decider.new.totals.answered ≤ floors.now.most) }
     ensures many { IfErr result (λ f. IfTooMany f (λ n. (n ≡ floors.now.most)
-        × FillsWithBatch floors.now.most (terms_of F.files floors.now.serving.now.server) seats origins.now desk.old
+        × FillsWithBatch floors.now.most F.files floors.now.serving.now.server.served seats origins.now decider.old
         writer.old.bytes writer.new.bytes)) }
     ensures part { IfErr result (λ f. IfCutShort f ((writer.new.bytes ≡ writer.old.bytes)
-        ⊎ AnswersBatchInPart floors.now.most (terms_of F.files floors.now.serving.now.server) seats origins.now desk.old
+        ⊎ AnswersBatchInPart floors.now.most F.files floors.now.serving.now.server.served seats origins.now decider.old
         writer.old.bytes writer.new.bytes)) }
     ensures failures { CountsBy writer_failures writer.old.failures writer.new.failures result }
     ensures own { IfErr result IsOwn }
@@ -80,7 +79,7 @@ fn serve_batch<
     let mut seats = seats.cut(serving.rt, alloc)?;
     let pieces = seats.merge(alloc, origins)?;
     let parts = parts_of(alloc, pieces)?;
-    serve_parts(floors, parts, desk, writer)?;
+    serve_parts(floors, parts, decider, writer)?;
     Ok(seats)
 }
 
@@ -99,23 +98,23 @@ fn serve_next_batch<
     capture: &mut CaptureReader<'_, R>,
     seats: &mut Seats,
     tiers: &mut Tiers,
-    desk: &mut Desk,
+    decider: &mut Decider,
     writer: &mut Output<W>,
 ) -> Result<bool, ReplayFault>
     requires can { AreFloorSteps F.files K.tariff C.step C.content C.count }
     requires between { (version : AVersion) × (text : Option (List ℕ)) × (begun : Option (List ℕ))
-        × Between (terms_of F.files floors.now.serving.now.server) floors.now.most version text begun
-        (progress_of capture.old) (device_of capture.old).bytes tiers.old seats.old desk.old writer.old.bytes }
+        × Between F.files floors.now.serving.now.server.served floors.now.most version text begun
+        (progress_of capture.old) (device_of capture.old).bytes tiers.old seats.old decider.old writer.old.bytes }
     requires devices { CanFail (device_of capture.old) × CanFail writer.old }
     ensures on { IfOk result (λ more. (version : AVersion) (text begun : Option (List ℕ))
-        → Between (terms_of F.files floors.now.serving.now.server) floors.now.most version text begun
-        (progress_of capture.old) (device_of capture.old).bytes tiers.old seats.old desk.old writer.old.bytes
-        → Stepped more (terms_of F.files floors.now.serving.now.server) floors.now.most version text begun
-        (progress_of capture.new) (device_of capture.new).bytes tiers.new seats.new desk.new writer.new.bytes) }
+        → Between F.files floors.now.serving.now.server.served floors.now.most version text begun
+        (progress_of capture.old) (device_of capture.old).bytes tiers.old seats.old decider.old writer.old.bytes
+        → Stepped more F.files floors.now.serving.now.server.served floors.now.most version text begun
+        (progress_of capture.new) (device_of capture.new).bytes tiers.new seats.new decider.new writer.new.bytes) }
     ensures fault { IfErr result (λ f. (version : AVersion) (text begun : Option (List ℕ))
-        → Between (terms_of F.files floors.now.serving.now.server) floors.now.most version text begun
-        (progress_of capture.old) (device_of capture.old).bytes tiers.old seats.old desk.old writer.old.bytes
-        → Leaves (reply_texts (terms_of F.files floors.now.serving.now.server)) text (device_of capture.new).bytes
+        → Between F.files floors.now.serving.now.server.served floors.now.most version text begun
+        (progress_of capture.old) (device_of capture.old).bytes tiers.old seats.old decider.old writer.old.bytes
+        → Leaves (reply_texts F.files floors.now.serving.now.server.served) text (device_of capture.new).bytes
         begun writer.new.bytes f) }
     ensures room { IfOk result (λ more. more ≡ true
         → (progress_of capture.new).room < (progress_of capture.old).room) }
@@ -130,7 +129,7 @@ fn serve_next_batch<
     let most = settings.batch();
     let batch = read_batch(alloc, capture, most, seats, tiers)?;
     let waiting = replace(seats, Seats::new(alloc));
-    *seats = serve_batch(floors, waiting, &batch.origins, desk, writer)?;
+    *seats = serve_batch(floors, waiting, &batch.origins, decider, writer)?;
     floors.load.judge(most, batch.origins.len());
     match batch.ending {
         Ending::More => Ok(true),
@@ -157,23 +156,23 @@ pub(crate) fn serve_next<
     capture: &mut CaptureReader<'_, R>,
     seats: &mut Seats,
     tiers: &mut Tiers,
-    desk: &mut Desk,
+    decider: &mut Decider,
     writer: &mut Output<W>,
 ) -> Result<bool, ReplayFault>
     requires can { AreFloorSteps F.files K.tariff C.step C.content C.count }
     requires between { (version : AVersion) × (text : Option (List ℕ)) × (begun : Option (List ℕ))
-        × Between (terms_of F.files floors.now.serving.now.server) floors.now.most version text begun
-        (progress_of capture.old) (device_of capture.old).bytes tiers.old seats.old desk.old writer.old.bytes }
+        × Between F.files floors.now.serving.now.server.served floors.now.most version text begun
+        (progress_of capture.old) (device_of capture.old).bytes tiers.old seats.old decider.old writer.old.bytes }
     requires devices { CanFail (device_of capture.old) × CanFail writer.old }
     ensures on { IfOk result (λ more. (version : AVersion) (text begun : Option (List ℕ))
-        → Between (terms_of F.files floors.now.serving.now.server) floors.now.most version text begun
-        (progress_of capture.old) (device_of capture.old).bytes tiers.old seats.old desk.old writer.old.bytes
-        → Stepped more (terms_of F.files floors.now.serving.now.server) floors.now.most version text begun
-        (progress_of capture.new) (device_of capture.new).bytes tiers.new seats.new desk.new writer.new.bytes) }
+        → Between F.files floors.now.serving.now.server.served floors.now.most version text begun
+        (progress_of capture.old) (device_of capture.old).bytes tiers.old seats.old decider.old writer.old.bytes
+        → Stepped more F.files floors.now.serving.now.server.served floors.now.most version text begun
+        (progress_of capture.new) (device_of capture.new).bytes tiers.new seats.new decider.new writer.new.bytes) }
     ensures fault { IfErr result (λ f. (version : AVersion) (text begun : Option (List ℕ))
-        → Between (terms_of F.files floors.now.serving.now.server) floors.now.most version text begun
-        (progress_of capture.old) (device_of capture.old).bytes tiers.old seats.old desk.old writer.old.bytes
-        → Leaves (reply_texts (terms_of F.files floors.now.serving.now.server)) text (device_of capture.new).bytes
+        → Between F.files floors.now.serving.now.server.served floors.now.most version text begun
+        (progress_of capture.old) (device_of capture.old).bytes tiers.old seats.old decider.old writer.old.bytes
+        → Leaves (reply_texts F.files floors.now.serving.now.server.served) text (device_of capture.new).bytes
         begun writer.new.bytes f) }
     ensures room { IfOk result (λ more. more ≡ true
         → (progress_of capture.new).room < (progress_of capture.old).room) }
@@ -183,7 +182,7 @@ pub(crate) fn serve_next<
     ensures same { loan_of capture.new ≡ loan_of capture.old }
 {
     if floors.pay() {
-        return serve_next_batch(floors, capture, seats, tiers, desk, writer);
+        return serve_next_batch(floors, capture, seats, tiers, decider, writer);
     }
     let serving = floors.serving;
     let server = &serving.server;
@@ -202,7 +201,7 @@ pub(crate) fn serve_next<
         &next,
         seats,
         tiers,
-        desk,
+        decider,
         writer,
         floors.most,
     )?;

@@ -7,14 +7,13 @@ ghost use Rattle.devices.specs.Devices.{CanFail, CountsBy, AppendsPrefix};
 ghost use Rattle.captures.specs.Reference.{max_start};
 ghost use Rattle.captures.specs.Passes.{writer_failures, IsWriteOrMemory};
 ghost use Rattle.arrivals.specs.Reference.{Arrival};
-ghost use Rattle.reference.specs.Reference.{terms_of};
 ghost use Rattle.replay.specs.Backs.{is_back};
 ghost use Rattle.replay.specs.Groups.{records_of};
 ghost use Rattle.replay.specs.Steps.{DecidesComing, ArePending};
 ghost use Rattle.replay.specs.Waiting.{Upcoming};
 ghost use Rattle.replay.specs.declared.back.BackState.TheVariants.{Due as Waits};
 
-use crate::desk::{Desk, settle};
+use crate::decider::{Decider, decide_next};
 use crate::lookup::look_up;
 use crate::pending::{PendingReply, answer_pending};
 use crate::server::Server;
@@ -29,26 +28,26 @@ use std::io::Write;
 use std::sync::{Mutex, Wait};
 
 /// Looks messages up and decides on them, one after another.
-pub(crate) fn settle_all<F: Tree>(
+pub(crate) fn decide_in_turn<F: Tree>(
     server: &Server<'_, F>,
     messages: Vec<Incoming>,
-    desk: &mut Desk,
+    decider: &mut Decider,
 ) -> Result<Vec<PendingReply<F>>, AllocError>
-    requires start { desk.old.start ≤ max_start }
+    requires start { decider.old.start ≤ max_start }
     requires next { (arrivals : List Arrival) × (more : List Arrival)
-        × Upcoming (terms_of F.files server.now) arrivals more messages.items desk.old
+        × Upcoming F.files server.now.served arrivals more messages.items decider.old
         × (length arrivals + length more ≤ MAX_MESSAGES) }
     ensures stands { OnOk result
-        (DecidesComing (terms_of F.files server.now) messages.items desk.old desk.new) }
+        (DecidesComing F.files server.now.served messages.items decider.old decider.new) }
     ensures slips { IfOk result
-        (λ v. ArePending (terms_of F.files server.now) messages.items desk.old v.items) }
+        (λ v. ArePending F.files server.now.served messages.items decider.old v.items) }
     ensures ready { IfOk result (λ v. list_all (λ t. is_back F.files (Waits t)) v.items ≡ true) }
-    ensures start { OnOk result (desk.new.start ≡ desk.old.start) }
+    ensures start { OnOk result (decider.new.start ≡ decider.old.start) }
 {
     let mut pending_replies = Vec::with_capacity(server.alloc, messages.len())?;
     for message in messages {
         let lookup = look_up(server, &message.what)?;
-        let pending = settle(server, message.origin, &message.what, lookup, desk)?;
+        let pending = decide_next(server, message.origin, &message.what, lookup, decider)?;
         pending_replies.push(pending)?;
     }
     Ok(pending_replies)

@@ -4,7 +4,6 @@ ghost use Rattle.std.specs.Prelude.{◌≡◌, ◌-◌, ◌<◌, ◌^◌, IfOk, 
 ghost use Rattle.devices.specs.Devices.{CanFail, CountsBy};
 ghost use Rattle.reference.specs.Outcomes.{Leaves};
 ghost use Rattle.captures.specs.Passes.{reader_failures, writer_failures};
-ghost use Rattle.reference.specs.Reference.{terms_of};
 ghost use Rattle.reference.specs.Explaining.{Explains, row_texts};
 
 use crate::plain::replay_writing;
@@ -36,13 +35,13 @@ pub fn explain_replay<F: Tree, R: Read, W: Write>(
     requires devices { CanFail reader.old × CanFail writer.old }
     // After a fault of the capture, the rows of the messages of the whole records before it stand; after too many
     // messages, those of the messages within the limit; else a prefix of what was due.
-    ensures fault { IfErr result (Leaves (row_texts (terms_of F.files settings.now))
+    ensures fault { IfErr result (Leaves (row_texts F.files settings.now.served)
         reader.old.bytes reader.new.bytes writer.old.bytes writer.new.bytes) }
     // A device is blamed only where it failed in this call.
     ensures reads { CountsBy reader_failures reader.old.failures reader.new.failures result }
     ensures writes { CountsBy writer_failures writer.old.failures writer.new.failures result }
     ensures ok { IfOk result
-        (Explains (terms_of F.files settings.now) reader.old.bytes writer.old.bytes writer.new.bytes) }
+        (Explains F.files settings.now.served reader.old.bytes writer.old.bytes writer.new.bytes) }
 {
     replay_writing::<Rows, F, R, W>(alloc, snapshot, settings, reader, writer)
 }

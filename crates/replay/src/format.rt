@@ -5,15 +5,16 @@ ghost use Rattle.std.specs.Io.KnownBytes.{Appends};
 ghost use Rattle.devices.specs.Devices.{CanFail, CountsBy, AppendsPrefix};
 ghost use Rattle.captures.specs.Reference.{max_start, max_tick};
 ghost use Rattle.arrivals.specs.Reference.{Arrival};
-ghost use Rattle.reference.specs.Reference.{terms_of, Terms};
+ghost use Rattle.paths.specs.declared.file.File.{File};
+ghost use Rattle.reference.specs.Reference.{Terms};
 ghost use Rattle.captures.specs.Passes.{writer_failures, IsWriteOrMemory};
-ghost use Rattle.replay.specs.Serving.{DeskAfter, AreBy};
+ghost use Rattle.replay.specs.Serving.{DeciderAfter, AreBy};
 ghost use Rattle.reference.specs.Texts.{Texts, AreTexts};
 ghost use Rattle.replay.specs.Steps.{DecidesNext, WritesNext, WritesNextInPart, DecidesPiece, WritesPiece};
 ghost use Rattle.replay.specs.Steps.{WritesPieceInPart};
 ghost use Rattle.reference.specs.Outcomes.{IsOwn, IfTooMany, IfCutShort};
 
-use crate::desk::Desk;
+use crate::decider::Decider;
 use crate::server::Server;
 use crate::source::Source;
 use crate::{MAX_MESSAGES, ReplayFault};
@@ -28,20 +29,23 @@ use std::io::Write;
 /// What a replay writes of the messages of a capture, one after another: their replies, or the rows of a table.
 /// `texts` are what is written.
 pub(crate) trait Format {
+    ghost use Rattle.std.specs.Prelude.{List};
+    ghost use Rattle.paths.specs.declared.file.File.{File};
     ghost use Rattle.reference.specs.Reference.{Terms};
     ghost use Rattle.reference.specs.Texts.{Texts};
 
-    ghost texts: { Terms → Texts };
+    ghost texts: { List File → Terms → Texts };
 
     /// Writes what stands before any message.
     fn begin<W: Write>(writer: &mut Output<W>) -> Result<(), ReplayFault>
         requires { CanFail writer.old }
         // Each text is written from the first line to the last.
-        ensures texts { (terms : Terms) → AreTexts (texts terms) }
-        ensures written { OnOk result ((terms : Terms)
-            → Appends writer.old.bytes writer.new.bytes (texts terms).first) }
+        ensures texts { (files : List File) (terms : Terms) → AreTexts (texts files terms) }
+        ensures written { OnOk result ((files : List File) (terms : Terms)
+            → Appends writer.old.bytes writer.new.bytes (texts files terms).first) }
         ensures part { OnErr result
-            ((terms : Terms) → AppendsPrefix writer.old.bytes writer.new.bytes (texts terms).first) }
+            ((files : List File) (terms : Terms) → AppendsPrefix writer.old.bytes writer.new.bytes
+            (texts files terms).first) }
         ensures failures { CountsBy writer_failures writer.old.failures writer.new.failures result }
         ensures own { IfErr result IsWriteOrMemory };
 
@@ -53,27 +57,27 @@ pub(crate) trait Format {
         source: &mut S,
         origin: Origin,
         what: &Meaning,
-        desk: &mut Desk,
+        decider: &mut Decider,
         writer: &mut Output<W>,
     ) -> Result<(), ReplayFault>
-        requires start { desk.old.start ≤ max_start }
+        requires start { decider.old.start ≤ max_start }
         requires tick { origin.tick ≤ max_tick }
         requires tier { origin.tier < 4 }
-        requires few { desk.old.totals.answered < MAX_MESSAGES }
+        requires few { decider.old.totals.answered < MAX_MESSAGES }
         requires stands { (arrivals : List Arrival)
-            × DeskAfter (terms_of F.files server.now) arrivals desk.old
+            × DeciderAfter F.files server.now.served arrivals decider.old
             × AreBy origin.tick arrivals }
         requires failures { CanFail writer.old }
         ensures stands { OnOk result
-            (DecidesNext (terms_of F.files server.now) origin what.now desk.old desk.new) }
+            (DecidesNext F.files server.now.served origin what.now decider.old decider.new) }
         ensures written { OnOk result
-            (WritesNext (texts (terms_of F.files server.now)) (terms_of F.files server.now)
-            origin what.now desk.old writer.old.bytes writer.new.bytes) }
-        ensures start { OnOk result (desk.new.start ≡ desk.old.start) }
-        ensures number { OnOk result (desk.new.totals.answered ≡ desk.old.totals.answered + 1) }
+            (WritesNext (texts F.files server.now.served) F.files server.now.served
+            origin what.now decider.old writer.old.bytes writer.new.bytes) }
+        ensures start { OnOk result (decider.new.start ≡ decider.old.start) }
+        ensures number { OnOk result (decider.new.totals.answered ≡ decider.old.totals.answered + 1) }
         ensures part { OnErr result
-            (WritesNextInPart (texts (terms_of F.files server.now)) (terms_of F.files server.now)
-            origin what.now desk.old writer.old.bytes writer.new.bytes) }
+            (WritesNextInPart (texts F.files server.now.served) F.files server.now.served
+            origin what.now decider.old writer.old.bytes writer.new.bytes) }
         ensures failures { CountsBy writer_failures writer.old.failures writer.new.failures result }
         ensures own { IfErr result IsWriteOrMemory };
 
@@ -85,9 +89,11 @@ pub(crate) trait Format {
     ) -> Result<(), ReplayFault>
         requires { CanFail writer.old }
         ensures written { OnOk result
-            ((terms : Terms) → Appends writer.old.bytes writer.new.bytes ((texts terms).last count)) }
+            ((files : List File) (terms : Terms) → Appends writer.old.bytes writer.new.bytes
+            ((texts files terms).last count)) }
         ensures part { OnErr result
-            ((terms : Terms) → AppendsPrefix writer.old.bytes writer.new.bytes ((texts terms).last count)) }
+            ((files : List File) (terms : Terms) → AppendsPrefix writer.old.bytes writer.new.bytes
+            ((texts files terms).last count)) }
         ensures failures { CountsBy writer_failures writer.old.failures writer.new.failures result }
         ensures own { IfErr result IsWriteOrMemory };
 }
@@ -99,43 +105,51 @@ pub(crate) fn answer_all<T: Format, F: Tree, S: Source<F>, W: Write>(
     source: &mut S,
     origin: Origin,
     messages: &[Message],
-    desk: &mut Desk,
+    decider: &mut Decider,
     writer: &mut Output<W>,
     most: usize,
 ) -> Result<(), ReplayFault>
-    requires texts { (terms : Terms) → AreTexts (T.texts terms) }
-    requires start { desk.old.start ≤ max_start }
+    requires texts { (files : List File) (terms : Terms) → AreTexts (T.texts files terms) }
+    requires start { decider.old.start ≤ max_start }
     requires tick { origin.tick ≤ max_tick }
     requires tier { origin.tier < 4 }
-    requires limit { (desk.old.totals.answered ≤ most) × (most ≤ MAX_MESSAGES) }
+    requires limit { (decider.old.totals.answered ≤ most) × (most ≤ MAX_MESSAGES) }
     requires stands { (arrivals : List Arrival)
-        × DeskAfter (terms_of F.files server.now) arrivals desk.old
+        × DeciderAfter F.files server.now.served arrivals decider.old
         × AreBy origin.tick arrivals }
     requires failures { CanFail writer.old }
     ensures stands { OnOk result
-        (DecidesPiece (terms_of F.files server.now) origin messages.now desk.old desk.new) }
+        (DecidesPiece F.files server.now.served origin messages.now decider.old decider.new) }
     ensures written { OnOk result
-        (WritesPiece (T.texts (terms_of F.files server.now)) (terms_of F.files server.now)
-        origin messages.now desk.old writer.old.bytes writer.new.bytes) }
-    ensures start { OnOk result (desk.new.start ≡ desk.old.start) }
-    ensures within { OnOk result (desk.new.totals.answered ≤ most) }
+        (WritesPiece (T.texts F.files server.now.served) F.files server.now.served
+        origin messages.now decider.old writer.old.bytes writer.new.bytes) }
+    ensures start { OnOk result (decider.new.start ≡ decider.old.start) }
+    ensures within { OnOk result (decider.new.totals.answered ≤ most) }
     ensures many { IfErr result
         (λ f. IfTooMany f (λ n. (n ≡ most) × (i : ℕ) × (i < length messages.now)
-        × (desk.old.totals.answered + i ≡ most)
-        × WritesPiece (T.texts (terms_of F.files server.now)) (terms_of F.files server.now)
-        origin (take i messages.now) desk.old writer.old.bytes writer.new.bytes)) }
+        × (decider.old.totals.answered + i ≡ most)
+        × WritesPiece (T.texts F.files server.now.served) F.files server.now.served
+        origin (take i messages.now) decider.old writer.old.bytes writer.new.bytes)) }
     ensures part { IfErr result (λ f. IfCutShort f ((i : ℕ) × (i ≤ length messages.now)
-        × (desk.old.totals.answered + i ≤ most)
-        × WritesPieceInPart (T.texts (terms_of F.files server.now)) (terms_of F.files server.now)
-        origin (take i messages.now) desk.old writer.old.bytes writer.new.bytes)) }
+        × (decider.old.totals.answered + i ≤ most)
+        × WritesPieceInPart (T.texts F.files server.now.served) F.files server.now.served
+        origin (take i messages.now) decider.old writer.old.bytes writer.new.bytes)) }
     ensures failures { CountsBy writer_failures writer.old.failures writer.new.failures result }
     ensures own { IfErr result IsOwn }
 {
     for message in messages {
-        if desk.totals.answered == most {
+        if decider.totals.answered == most {
             return Err(ReplayFault::TooMany(most));
         }
-        T::write_message::<F, S, W>(server, heads, source, origin, &message.what, desk, writer)?;
+        T::write_message::<F, S, W>(
+            server,
+            heads,
+            source,
+            origin,
+            &message.what,
+            decider,
+            writer,
+        )?;
     }
     Ok(())
 }

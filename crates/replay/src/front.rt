@@ -168,7 +168,7 @@ pub(crate) fn run_front<
 ) -> Result<Vec<LookedUp>, Unrun>
     requires can { AreFloorSteps F.files K.tariff C.step C.content C.count }
     ensures seen { IfOk result
-        (λ v. v.items ≡ map (front_value F.files floors.now.serving.now.server.tariff) messages.items) }
+        (λ v. v.items ≡ map (front_value F.files floors.now.serving.now.server.served.tariff) messages.items) }
 {
     let serving = floors.serving;
     let server = &serving.server;

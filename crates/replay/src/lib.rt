@@ -4,7 +4,7 @@
 mod advance;
 mod answers;
 mod back;
-mod desk;
+mod decider;
 mod direct;
 mod explain;
 mod format;

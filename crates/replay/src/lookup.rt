@@ -80,7 +80,7 @@ pub(crate) fn charge_of(
 
 /// What is known of a message before it is decided on.
 pub(crate) fn look_up<F: Tree>(server: &Server<'_, F>, what: &Meaning) -> Result<Lookup, AllocError>
-    ensures { IfOk result (λ lookup. lookup ≡ lookup_of F.files server.now.tariff what.now) }
+    ensures { IfOk result (λ lookup. lookup ≡ lookup_of F.files server.now.served.tariff what.now) }
 {
     let Meaning::Request {
         method,

@@ -10,12 +10,11 @@ ghost use Rattle.stage_graph.specs.Steps.{value_of};
 ghost use Rattle.replay.specs.Lots.{AreFloorSteps, lot_len, lot_step, lot_value};
 ghost use Rattle.replay.specs.Backs.{is_back};
 ghost use Rattle.replay.specs.declared.back.BackState.TheVariants.{Due as Waits};
-ghost use Rattle.replay.specs.Groups.{records_of};
+ghost use Rattle.replay.specs.Groups.{records_of, room_for_pages};
 ghost use Rattle.captures.specs.Reference.{max_start};
 ghost use Rattle.responses.specs.Reference.{record_text};
 ghost use Rattle.arrivals.specs.Reference.{Arrival};
 ghost use Rattle.arrivals.specs.Batches.{joined};
-ghost use Rattle.reference.specs.Reference.{terms_of};
 ghost use Rattle.reference.specs.Outcomes.{IsOwn, IfTooMany, IfCutShort};
 ghost use Rattle.captures.specs.Passes.{writer_failures, IsWriteOrMemory};
 ghost use Rattle.replay.specs.Steps.{DecidesComing, ArePending, WritesComing, WritesComingInPart};
@@ -25,8 +24,8 @@ ghost use Rattle.std.specs.Io.KnownBytes.{Appends};
 ghost use Rattle.devices.specs.Devices.{CanFail, CountsBy, AppendsPrefix};
 
 use crate::back::run_back;
-use crate::desk::{Desk, decide_all};
-use crate::direct::{answer_each, settle_all};
+use crate::decider::{Decider, decide_all};
+use crate::direct::{answer_each, decide_in_turn};
 use crate::front::run_front;
 use crate::groups::{groups_of, work_of};
 use crate::load::{ANSWERING_PAYS, LOOKING_PAYS, Load, target_len};
@@ -64,6 +63,7 @@ pub(crate) struct Floors<'v, 'a, F: Tree, K: Pricing, C, Q, G, T: Wait> {
     pub most: usize,
     /// How much work they have, or would have.
     pub load: Load,
+    pub ghost held: { room ≡ room_for_pages F.files serving.now.server.floors.cache },
 }
 
 impl<
@@ -109,7 +109,7 @@ impl<
         requires size { IsLotSize plan.now size }
         requires lots { AreSized lot_len size lots.items }
         ensures { IfOk result (λ v. map (lot_value F.files) v.items
-            ≡ map (λ lot. value_of (lot_step F.files self.now.serving.now.server.tariff) (last_cut plan.now)
+            ≡ map (λ lot. value_of (lot_step F.files self.now.serving.now.server.served.tariff) (last_cut plan.now)
             (lot_value F.files lot)) lots.items) }
     {
         let serving = self.serving;
@@ -230,7 +230,7 @@ fn answer_all_pending<
 
 /// Looks messages up and decides on them: a floor looks them up, and then they are decided on in their order; or each
 /// is looked up and decided on before the next.
-fn settle_messages<
+fn decide_messages<
     F: Tree,
     K: Pricing,
     Q,
@@ -240,29 +240,29 @@ fn settle_messages<
 >(
     floors: &Floors<'_, '_, F, K, C, Q, G, T>,
     messages: Vec<Incoming>,
-    desk: &mut Desk,
+    decider: &mut Decider,
 ) -> Result<Vec<PendingReply<F>>, ReplayFault>
     requires can { AreFloorSteps F.files K.tariff C.step C.content C.count }
-    requires start { desk.old.start ≤ max_start }
+    requires start { decider.old.start ≤ max_start }
     requires next { (arrivals : List Arrival) × (more : List Arrival)
-        × Upcoming (terms_of F.files floors.now.serving.now.server) arrivals more messages.items desk.old
+        × Upcoming F.files floors.now.serving.now.server.served arrivals more messages.items decider.old
         × (length arrivals + length more ≤ MAX_MESSAGES) }
     ensures stands { OnOk result
-        (DecidesComing (terms_of F.files floors.now.serving.now.server) messages.items desk.old desk.new) }
+        (DecidesComing F.files floors.now.serving.now.server.served messages.items decider.old decider.new) }
     ensures slips { IfOk result
-        (λ v. ArePending (terms_of F.files floors.now.serving.now.server) messages.items desk.old v.items) }
+        (λ v. ArePending F.files floors.now.serving.now.server.served messages.items decider.old v.items) }
     ensures ready { IfOk result (λ v. list_all (λ t. is_back F.files (Waits t)) v.items ≡ true) }
-    ensures start { OnOk result (desk.new.start ≡ desk.old.start) }
+    ensures start { OnOk result (decider.new.start ≡ decider.old.start) }
     ensures memory { IfErr result (λ f. f ≡ ReplayFault.Memory) }
 {
     let serving = floors.serving;
     let server = &serving.server;
     let targets = targets_of(&messages);
     if floors.is_alone(targets, LOOKING_PAYS) {
-        return Ok(settle_all(server, messages, desk)?);
+        return Ok(decide_in_turn(server, messages, decider)?);
     }
-    match run_front(floors, desk.totals.answered, messages) {
-        Ok(lookups) => Ok(decide_all(server, lookups, desk)?),
+    match run_front(floors, decider.totals.answered, messages) {
+        Ok(lookups) => Ok(decide_all(server, lookups, decider)?),
         Err(unrun) => Err(of_unrun(unrun)),
     }
 }
@@ -279,31 +279,31 @@ fn serve_few<
 >(
     floors: &Floors<'_, '_, F, K, C, Q, G, T>,
     messages: Vec<Incoming>,
-    desk: &mut Desk,
+    decider: &mut Decider,
     writer: &mut Output<W>,
 ) -> Result<(), ReplayFault>
     requires can { AreFloorSteps F.files K.tariff C.step C.content C.count }
-    requires start { desk.old.start ≤ max_start }
+    requires start { decider.old.start ≤ max_start }
     requires next { (arrivals : List Arrival) × (more : List Arrival)
-        × Upcoming (terms_of F.files floors.now.serving.now.server) arrivals more messages.items desk.old
+        × Upcoming F.files floors.now.serving.now.server.served arrivals more messages.items decider.old
         × (length arrivals + length more ≤ MAX_MESSAGES) }
     requires failures { CanFail writer.old }
     ensures stands { OnOk result
-        (DecidesComing (terms_of F.files floors.now.serving.now.server) messages.items desk.old desk.new) }
+        (DecidesComing F.files floors.now.serving.now.server.served messages.items decider.old decider.new) }
     ensures written { OnOk result
-        (WritesComing (terms_of F.files floors.now.serving.now.server) messages.items desk.old
+        (WritesComing F.files floors.now.serving.now.server.served messages.items decider.old
         writer.old.bytes writer.new.bytes) }
     ensures part { OnErr result
-        (WritesComingInPart (terms_of F.files floors.now.serving.now.server) messages.items desk.old
+        (WritesComingInPart F.files floors.now.serving.now.server.served messages.items decider.old
         writer.old.bytes writer.new.bytes) }
-    ensures start { OnOk result (desk.new.start ≡ desk.old.start) }
+    ensures start { OnOk result (decider.new.start ≡ decider.old.start) }
     ensures failures { CountsBy writer_failures writer.old.failures writer.new.failures result }
     ensures own { IfErr result IsWriteOrMemory }
 {
     if messages.is_empty() {
         return Ok(());
     }
-    let pending_replies = settle_messages(floors, messages, desk)?;
+    let pending_replies = decide_messages(floors, messages, decider)?;
     answer_all_pending(floors, pending_replies, writer)
 }
 
@@ -319,42 +319,42 @@ fn serve_part<
 >(
     floors: &Floors<'_, '_, F, K, C, Q, G, T>,
     messages: Vec<Incoming>,
-    desk: &mut Desk,
+    decider: &mut Decider,
     writer: &mut Output<W>,
 ) -> Result<(), ReplayFault>
     requires can { AreFloorSteps F.files K.tariff C.step C.content C.count }
-    requires start { desk.old.start ≤ max_start }
+    requires start { decider.old.start ≤ max_start }
     requires next { (arrivals : List Arrival) × (more : List Arrival)
-        × Upcoming (terms_of F.files floors.now.serving.now.server) arrivals more messages.items desk.old }
-    requires limit { (desk.old.totals.answered ≤ floors.now.most)
+        × Upcoming F.files floors.now.serving.now.server.served arrivals more messages.items decider.old }
+    requires limit { (decider.old.totals.answered ≤ floors.now.most)
         × (floors.now.most ≤ MAX_MESSAGES) }
     requires failures { CanFail writer.old }
     ensures stands { OnOk result
-        (DecidesComing (terms_of F.files floors.now.serving.now.server) messages.items desk.old desk.new) }
+        (DecidesComing F.files floors.now.serving.now.server.served messages.items decider.old decider.new) }
     ensures written { OnOk result
-        (WritesComing (terms_of F.files floors.now.serving.now.server) messages.items desk.old
+        (WritesComing F.files floors.now.serving.now.server.served messages.items decider.old
         writer.old.bytes writer.new.bytes) }
     ensures many { IfErr result
         (λ f. IfTooMany f (λ n. (n ≡ floors.now.most) × (i : ℕ) × (i < length messages.items)
-        × (desk.old.totals.answered + i ≡ floors.now.most)
-        × WritesFirst i (terms_of F.files floors.now.serving.now.server) messages.items desk.old
+        × (decider.old.totals.answered + i ≡ floors.now.most)
+        × WritesFirst i F.files floors.now.serving.now.server.served messages.items decider.old
         writer.old.bytes writer.new.bytes)) }
     ensures part { IfErr result (λ f. IfCutShort f ((i : ℕ) × (i ≤ length messages.items)
-        × (desk.old.totals.answered + i ≤ floors.now.most)
-        × WritesFirstInPart i (terms_of F.files floors.now.serving.now.server) messages.items desk.old
+        × (decider.old.totals.answered + i ≤ floors.now.most)
+        × WritesFirstInPart i F.files floors.now.serving.now.server.served messages.items decider.old
         writer.old.bytes writer.new.bytes)) }
-    ensures start { OnOk result (desk.new.start ≡ desk.old.start) }
-    ensures within { OnOk result (desk.new.totals.answered ≤ floors.now.most) }
+    ensures start { OnOk result (decider.new.start ≡ decider.old.start) }
+    ensures within { OnOk result (decider.new.totals.answered ≤ floors.now.most) }
     ensures failures { CountsBy writer_failures writer.old.failures writer.new.failures result }
     ensures own { IfErr result IsOwn }
 {
-    let room = floors.most - desk.totals.answered;
+    let room = floors.most - decider.totals.answered;
     if messages.len() <= room {
-        return serve_few(floors, messages, desk, writer);
+        return serve_few(floors, messages, decider, writer);
     }
     let mut within = messages;
     within.truncate(room);
-    serve_few(floors, within, desk, writer)?;
+    serve_few(floors, within, decider, writer)?;
     Err(ReplayFault::TooMany(floors.most))
 }
 
@@ -370,36 +370,36 @@ pub(crate) fn serve_parts<
 >(
     floors: &Floors<'_, '_, F, K, C, Q, G, T>,
     parts: Vec<Series<Incoming>>,
-    desk: &mut Desk,
+    decider: &mut Decider,
     writer: &mut Output<W>,
 ) -> Result<(), ReplayFault>
     requires can { AreFloorSteps F.files K.tariff C.step C.content C.count }
-    requires start { desk.old.start ≤ max_start }
+    requires start { decider.old.start ≤ max_start }
     requires next { (arrivals : List Arrival) × (more : List Arrival)
-        × Upcoming (terms_of F.files floors.now.serving.now.server) arrivals more (joined parts.items) desk.old }
-    requires limit { (desk.old.totals.answered ≤ floors.now.most)
+        × Upcoming F.files floors.now.serving.now.server.served arrivals more (joined parts.items) decider.old }
+    requires limit { (decider.old.totals.answered ≤ floors.now.most)
         × (floors.now.most ≤ MAX_MESSAGES) }
     requires failures { CanFail writer.old }
     ensures stands { OnOk result
-        (DecidesComing (terms_of F.files floors.now.serving.now.server) (joined parts.items) desk.old desk.new) }
+        (DecidesComing F.files floors.now.serving.now.server.served (joined parts.items) decider.old decider.new) }
     ensures written { OnOk result
-        (WritesComing (terms_of F.files floors.now.serving.now.server) (joined parts.items) desk.old
+        (WritesComing F.files floors.now.serving.now.server.served (joined parts.items) decider.old
         writer.old.bytes writer.new.bytes) }
     ensures many { IfErr result (λ f. IfTooMany f (λ n. (n ≡ floors.now.most) × (i : ℕ)
-        × (i < length (joined parts.items)) × (desk.old.totals.answered + i ≡ floors.now.most)
-        × WritesFirst i (terms_of F.files floors.now.serving.now.server) (joined parts.items) desk.old
+        × (i < length (joined parts.items)) × (decider.old.totals.answered + i ≡ floors.now.most)
+        × WritesFirst i F.files floors.now.serving.now.server.served (joined parts.items) decider.old
         writer.old.bytes writer.new.bytes)) }
     ensures part { IfErr result (λ f. IfCutShort f ((i : ℕ) × (i ≤ length (joined parts.items))
-        × (desk.old.totals.answered + i ≤ floors.now.most)
-        × WritesFirstInPart i (terms_of F.files floors.now.serving.now.server) (joined parts.items) desk.old
+        × (decider.old.totals.answered + i ≤ floors.now.most)
+        × WritesFirstInPart i F.files floors.now.serving.now.server.served (joined parts.items) decider.old
         writer.old.bytes writer.new.bytes)) }
-    ensures start { OnOk result (desk.new.start ≡ desk.old.start) }
-    ensures within { OnOk result (desk.new.totals.answered ≤ floors.now.most) }
+    ensures start { OnOk result (decider.new.start ≡ decider.old.start) }
+    ensures within { OnOk result (decider.new.totals.answered ≤ floors.now.most) }
     ensures failures { CountsBy writer_failures writer.old.failures writer.new.failures result }
     ensures own { IfErr result IsOwn }
 {
     for part in parts {
-        serve_part(floors, part.into_vec(), desk, writer)?;
+        serve_part(floors, part.into_vec(), decider, writer)?;
     }
     Ok(())
 }

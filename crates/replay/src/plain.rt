@@ -7,20 +7,21 @@ ghost use Rattle.captures.specs.Reference.{IsRecord, max_start};
 ghost use Rattle.captures.specs.CaptureFaults.{longest_text};
 ghost use Rattle.captures.specs.Captures.{size_of, sizes_of};
 ghost use Rattle.captures.specs.declared.record.Record.{Record as ARecord};
-ghost use Rattle.reference.specs.Reference.{Terms, terms_of, summary_of, tallies_of, tally_of, Answers};
+ghost use Rattle.paths.specs.declared.file.File.{File};
+ghost use Rattle.reference.specs.Reference.{Terms, summary_of, tallies_of, tally_of, Answers};
 ghost use Rattle.arrivals.specs.Reference.{Arrival};
 ghost use Rattle.reference.specs.Texts.{AreTexts, reply_texts};
 ghost use Rattle.reference.specs.Outcomes.{IfTooMany, IfCutShort, IsOwn, Leaves};
 ghost use Rattle.captures.specs.Passes.{reader_failures};
 ghost use Rattle.captures.specs.Passes.{writer_failures};
-ghost use Rattle.replay.specs.Serving.{IsLater, Serves, DeskAfter, WritesWhole};
+ghost use Rattle.replay.specs.Serving.{IsLater, Serves, DeciderAfter, WritesWhole};
 ghost use Rattle.replay.specs.Steps.{AnswersRecord, FillsWithRecord, AnswersRecordInPart};
 ghost use Rattle.arrivals.specs.Connections.{AreTiers};
 ghost use Rattle.admission.specs.Reference.{Offer};
 ghost use Rattle.admission.specs.After.{ControllerAfter};
 ghost use Rattle.admission.specs.Standing.{station_of};
 
-use crate::desk::{Desk, controller_of};
+use crate::decider::{Decider, controller_of};
 use crate::format::{Format, answer_all};
 use crate::reading::Reading;
 use crate::replies::Replies;
@@ -81,13 +82,13 @@ fn tallies_of(controller: Controller) -> [Tally; 4]
 }
 
 /// What the replay has come to.
-pub(crate) fn outcome_of(version: Version, desk: Desk) -> Outcome
+pub(crate) fn outcome_of(version: Version, decider: Decider) -> Outcome
     ensures version { result.version ≡ version }
-    ensures rejected { result.rejected ≡ desk.totals.rejected }
-    ensures summary { (terms : Terms) (arrivals : List Arrival)
-        → DeskAfter terms arrivals desk → result.summary ≡ summary_of terms arrivals }
+    ensures rejected { result.rejected ≡ decider.totals.rejected }
+    ensures summary { (files : List File) (terms : Terms) (arrivals : List Arrival)
+        → DeciderAfter files terms arrivals decider → result.summary ≡ summary_of files terms arrivals }
 {
-    let totals = desk.totals;
+    let totals = decider.totals;
     Outcome {
         version,
         rejected: totals.rejected,
@@ -95,7 +96,7 @@ pub(crate) fn outcome_of(version: Version, desk: Desk) -> Outcome
             counts: totals.counts,
             bypassed: totals.bypassed,
             samples: totals.samples,
-            tiers: tallies_of(desk.controller),
+            tiers: tallies_of(decider.controller),
         },
     }
 }
@@ -110,33 +111,33 @@ pub(crate) fn answer_record<T: Format, F: Tree, S: Source<F>, C: Reading, W: Wri
     next: &Record,
     connections: &mut C,
     tiers: &mut Tiers,
-    desk: &mut Desk,
+    decider: &mut Decider,
     writer: &mut Output<W>,
     most: usize,
 ) -> Result<(), ReplayFault>
-    requires texts { (terms : Terms) → AreTexts (T.texts terms) }
-    requires start { desk.old.start ≤ max_start }
-    requires limit { (desk.old.totals.answered ≤ most) × (most ≤ MAX_MESSAGES) }
+    requires texts { (files : List File) (terms : Terms) → AreTexts (T.texts files terms) }
+    requires start { decider.old.start ≤ max_start }
+    requires limit { (decider.old.totals.answered ≤ most) × (most ≤ MAX_MESSAGES) }
     requires record { (version : AVersion) × IsRecord version next.now }
     requires room { (records : List ARecord) × (arrivals : List Arrival)
-        × Serves (terms_of F.files server.now) records arrivals (C.connections connections.old) desk.old
+        × Serves F.files server.now.served records arrivals (C.connections connections.old) decider.old
         × (sizes_of records + size_of next.now ≤ longest_text) × IsLater next.now arrivals }
     requires failures { CanFail writer.old }
     ensures tiers { OnOk result ((records : List ARecord) → AreTiers records tiers.old
         → AreTiers (records ++ next.now ∷ []) tiers.new) }
     ensures serves { OnOk result
-        (AnswersRecord (T.texts (terms_of F.files server.now)) (terms_of F.files server.now)
-        next.now tiers.old (C.connections connections.old) desk.old
-        (C.connections connections.new) desk.new writer.old.bytes writer.new.bytes) }
+        (AnswersRecord (T.texts F.files server.now.served) F.files server.now.served
+        next.now tiers.old (C.connections connections.old) decider.old
+        (C.connections connections.new) decider.new writer.old.bytes writer.new.bytes) }
     ensures idle { OnOk result (C.idle connections.old → C.idle connections.new) }
-    ensures start { OnOk result (desk.new.start ≡ desk.old.start) }
-    ensures within { OnOk result (desk.new.totals.answered ≤ most) }
+    ensures start { OnOk result (decider.new.start ≡ decider.old.start) }
+    ensures within { OnOk result (decider.new.totals.answered ≤ most) }
     ensures many { IfErr result (λ f. IfTooMany f (λ n. (n ≡ most)
-        × FillsWithRecord most (T.texts (terms_of F.files server.now)) (terms_of F.files server.now)
-        next.now tiers.old (C.connections connections.old) desk.old writer.old.bytes writer.new.bytes)) }
+        × FillsWithRecord most (T.texts F.files server.now.served) F.files server.now.served
+        next.now tiers.old (C.connections connections.old) decider.old writer.old.bytes writer.new.bytes)) }
     ensures part { IfErr result (λ f. IfCutShort f ((writer.new.bytes ≡ writer.old.bytes)
-        ⊎ AnswersRecordInPart most (T.texts (terms_of F.files server.now)) (terms_of F.files server.now)
-        next.now tiers.old (C.connections connections.old) desk.old writer.old.bytes writer.new.bytes)) }
+        ⊎ AnswersRecordInPart most (T.texts F.files server.now.served) F.files server.now.served
+        next.now tiers.old (C.connections connections.old) decider.old writer.old.bytes writer.new.bytes)) }
     ensures failures { CountsBy writer_failures writer.old.failures writer.new.failures result }
     ensures own { IfErr result IsOwn }
 {
@@ -158,7 +159,9 @@ pub(crate) fn answer_record<T: Format, F: Tree, S: Source<F>, C: Reading, W: Wri
                 tick: *tick,
                 tier: tiers.of(*conn),
             };
-            answer_all::<T, F, S, W>(server, heads, source, origin, messages, desk, writer, most)
+            answer_all::<T, F, S, W>(
+                server, heads, source, origin, messages, decider, writer, most,
+            )
         }
     }
 }
@@ -174,12 +177,12 @@ pub(crate) fn replay_writing<T: Format, F: Tree, R: Read, W: Write>(
 ) -> Result<Outcome, ReplayFault>
     requires snapshot { snapshot.now ≡ F.files }
     requires devices { CanFail reader.old × CanFail writer.old }
-    ensures fault { IfErr result (Leaves (T.texts (terms_of F.files settings.now))
+    ensures fault { IfErr result (Leaves (T.texts F.files settings.now.served)
         reader.old.bytes reader.new.bytes writer.old.bytes writer.new.bytes) }
     ensures reads { CountsBy reader_failures reader.old.failures reader.new.failures result }
     ensures writes { CountsBy writer_failures writer.old.failures writer.new.failures result }
     ensures ok { IfOk result
-        (WritesWhole (T.texts (terms_of F.files settings.now)) (terms_of F.files settings.now)
+        (WritesWhole (T.texts F.files settings.now.served) F.files settings.now.served
         reader.old.bytes writer.old.bytes writer.new.bytes) }
 {
     T::begin(writer)?;
@@ -200,7 +203,7 @@ pub(crate) fn replay_writing<T: Format, F: Tree, R: Read, W: Write>(
     let mut tiers = Tiers::new(alloc);
     let version = capture.version();
     let most = version.max_messages();
-    let mut desk = Desk {
+    let mut decider = Decider {
         start: capture.start(),
         controller: controller_of(alloc, settings)?,
         totals: Totals::new(alloc),
@@ -219,13 +222,13 @@ pub(crate) fn replay_writing<T: Format, F: Tree, R: Read, W: Write>(
             &next,
             &mut connections,
             &mut tiers,
-            &mut desk,
+            &mut decider,
             writer,
             most,
         )?;
     }
-    let answered = desk.totals.answered;
-    let outcome = outcome_of(version, desk);
+    let answered = decider.totals.answered;
+    let outcome = outcome_of(version, decider);
     T::finish(alloc, writer, answered)?;
     Ok(outcome)
 }
@@ -249,13 +252,13 @@ pub fn plain_replay<F: Tree, R: Read, W: Write>(
     requires devices { CanFail reader.old × CanFail writer.old }
     // After a fault of the capture, the replies of the messages of the whole records before it stand; after too many
     // messages, those of the messages within the limit; else a prefix of what was due.
-    ensures fault { IfErr result (Leaves (reply_texts (terms_of F.files settings.now))
+    ensures fault { IfErr result (Leaves (reply_texts F.files settings.now.served)
         reader.old.bytes reader.new.bytes writer.old.bytes writer.new.bytes) }
     // A device is blamed only where it failed in this call.
     ensures reads { CountsBy reader_failures reader.old.failures reader.new.failures result }
     ensures writes { CountsBy writer_failures writer.old.failures writer.new.failures result }
     ensures ok { IfOk result
-        (Answers (terms_of F.files settings.now) reader.old.bytes writer.old.bytes writer.new.bytes) }
+        (Answers F.files settings.now.served reader.old.bytes writer.old.bytes writer.new.bytes) }
 {
     replay_writing::<Replies, F, R, W>(alloc, snapshot, settings, reader, writer)
 }

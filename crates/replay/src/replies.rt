@@ -7,7 +7,7 @@ ghost use Rattle.reference.specs.Reference.{first_line, last_line};
 ghost use Rattle.captures.specs.Passes.{IsWriteOrMemory, writer_failures};
 
 use crate::ReplayFault;
-use crate::desk::{Desk, settle};
+use crate::decider::{Decider, decide_next};
 use crate::format::Format;
 use crate::lookup::look_up;
 use crate::pending::answer_pending;
@@ -69,11 +69,11 @@ impl Format for Replies {
         source: &mut S,
         origin: Origin,
         what: &Meaning,
-        desk: &mut Desk,
+        decider: &mut Decider,
         writer: &mut Output<W>,
     ) -> Result<(), ReplayFault> {
         let lookup = look_up(server, what)?;
-        let pending = settle(server, origin, what, lookup, desk)?;
+        let pending = decide_next(server, origin, what, lookup, decider)?;
         answer_pending(server, heads, source, pending, writer)
     }
 

@@ -6,6 +6,7 @@ ghost use Rattle.responses.specs.Reference.{status_of};
 ghost use Rattle.admission.specs.Reference.{decided};
 ghost use Rattle.admission.specs.After.{outlook};
 ghost use Rattle.arrivals.specs.Reference.{Arrival};
+ghost use Rattle.paths.specs.declared.file.File.{File};
 ghost use Rattle.reference.specs.Reference.{station_for, Terms, tick_in, handled_next, offers_of, slip_of};
 ghost use Rattle.replay.specs.Fronts.{lookup_of};
 ghost use Rattle.replay.specs.Backs.{slip_of_pending, given_by};
@@ -13,7 +14,7 @@ ghost use Rattle.reference.specs.Explaining.{row_of, method_of, target_of};
 ghost use Rattle.replay.specs.Rowing.{service_in, turns_away, offered_with};
 
 use crate::ReplayFault;
-use crate::desk::{Desk, settle};
+use crate::decider::{Decider, decide_next};
 use crate::format::Format;
 use crate::lookup::{Lookup, look_up};
 use crate::pending::{Due, PendingReply};
@@ -110,13 +111,13 @@ fn row_of<F: Tree>(
     requires free { found.free ≤ MAX_TICK + MAX_SERVICE * MAX_OFFERS }
     requires tick { tick ≤ MAX_TICK }
     requires service { IfSome service (λ service. service ≤ MAX_SERVICE) }
-    ensures { (terms : Terms) (start : ℕ) (arrivals : List Arrival) (a : Arrival)
+    ensures { (files : List File) (terms : Terms) (start : ℕ) (arrivals : List Arrival) (a : Arrival)
         → a.origin ≡ origin → tick ≡ tick_in terms origin
-        → service ≡ service_in (lookup_of terms.files terms.tariff a.message.what)
-        → found ≡ outlook (station_for terms) (decided (station_for terms) (offers_of terms arrivals))
+        → service ≡ service_in (lookup_of files terms.tariff a.message.what)
+        → found ≡ outlook (station_for terms) (decided (station_for terms) (offers_of files terms arrivals))
         origin.tier tick
-        → slip_of_pending pending.now ≡ slip_of terms start (handled_next terms arrivals a)
-        → result ≡ row_of terms arrivals a }
+        → slip_of_pending pending.now ≡ slip_of files terms start (handled_next files terms arrivals a)
+        → result ≡ row_of files terms arrivals a }
 {
     let away = turns_away(&pending.due);
     Row {
@@ -166,14 +167,14 @@ impl Format for Rows {
         _source: &mut S,
         origin: Origin,
         what: &Meaning,
-        desk: &mut Desk,
+        decider: &mut Decider,
         writer: &mut Output<W>,
     ) -> Result<(), ReplayFault> {
         let lookup = look_up(server, what)?;
         let service = service_in(&lookup);
         let tick = server.tick(origin);
-        let found = desk.controller.outlook(origin.tier, tick)?;
-        let pending = settle(server, origin, what, lookup, desk)?;
+        let found = decider.controller.outlook(origin.tier, tick)?;
+        let pending = decide_next(server, origin, what, lookup, decider)?;
         let row = row_of(origin, tick, service, found, &pending);
         write_row(writer, &row, method_of(what), target_of(what))?;
         Ok(())

@@ -2,7 +2,7 @@
 
 ghost use Rattle.std.specs.Prelude.{◌≡◌, ◌≤◌};
 ghost use Rattle.captures.specs.Reference.{max_tick};
-ghost use Rattle.reference.specs.Reference.{terms_of, tick_in};
+ghost use Rattle.reference.specs.Reference.{tick_in};
 ghost use Rattle.replay.specs.Serving.{CountsBy};
 
 use crate::Settings;
@@ -36,9 +36,9 @@ impl<'a, F: Tree> Server<'a, F> {
     /// The tick that a message from there counts with, at the speed of the traffic.
     pub fn tick(&self, origin: Origin) -> u64
         requires { origin.tick ≤ max_tick }
-        ensures value { result ≡ tick_in (terms_of F.files self.now) origin }
+        ensures value { result ≡ tick_in self.now.served origin }
         ensures range { result ≤ origin.tick }
-        ensures rises { CountsBy self.now.speed origin.tick result }
+        ensures rises { CountsBy self.now.served.speed origin.tick result }
     {
         let settings = self.settings;
         settings.tick(origin.tick)

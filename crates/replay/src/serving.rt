@@ -38,10 +38,24 @@ pub(crate) struct Serving<'a, F: Tree, K: Pricing, T: Wait> {
     pub server: Server<'a, F>,
     pub cache: Mutex<PageCache<F>>,
     pub of: PhantomData<K>,
-    pub ghost table: { server.tariff ≡ K.tariff },
+    pub ghost table: { server.served.tariff ≡ K.tariff },
 }
 
 impl<'a, F: Tree, K: Pricing, T: Wait> Serving<'a, F, K, T> {
+    /// The floors work with this cache, whose pages have at most as many bytes together as the settings say.
+    pub fn new(rt: &'a T, server: Server<'a, F>, cache: PageCache<F>) -> Serving<'a, F, K, T>
+        requires tariff { server.served.tariff ≡ K.tariff }
+        requires limit { cache.limit ≡ server.floors.cache }
+        ensures { result.server ≡ server.entry }
+    {
+        Serving {
+            rt,
+            server,
+            cache: Mutex::new(cache),
+            of: PhantomData,
+        }
+    }
+
     /// Looks one step further into each of these messages, after so many steps.
     fn look_all(&self, done: usize, items: Vec<Seen<F>>) -> Result<Vec<Seen<F>>, AllocError>
         ensures { IfOk result (λ v. map (seen_value F.files) v.items

@@ -1,16 +1,17 @@
 //! The staged engine: records that are answered as they come, and batches that go over floors of threads.
 
-ghost use Rattle.std.specs.Prelude.{◌≡◌, ◌≤◌, ◌-◌, ◌^◌, ◌⊎◌, IfOk, IfErr};
+ghost use Rattle.std.specs.Prelude.{◌≡◌, ◌≤◌, ◌-◌, ◌^◌, ◌⊎◌, min, max, IfOk, IfErr};
 ghost use Rattle.devices.specs.Devices.{CanFail, CountsBy};
-ghost use Rattle.reference.specs.Reference.{terms_of, Answers};
+ghost use Rattle.reference.specs.Reference.{Answers};
 ghost use Rattle.reference.specs.Outcomes.{Leaves};
 ghost use Rattle.captures.specs.Passes.{BlamesReader, leaves_reads_untold, reader_failures, writer_failures};
 ghost use Rattle.reference.specs.Texts.{reply_texts};
+ghost use Rattle.stage_graph.specs.Layouts.{workers};
 ghost use Rattle.replay.specs.Lots.{AreFloorSteps};
 ghost use Rattle.replay.specs.Replayed.{Stopped, Replayed};
 
 use crate::advance::serve_next;
-use crate::desk::{Desk, controller_of};
+use crate::decider::{Decider, controller_of};
 use crate::groups::room_for_pages;
 use crate::load::Load;
 use crate::lots::{Lot, LotValue};
@@ -74,7 +75,7 @@ pub fn staged_replay<
     requires devices { CanFail reader.old × CanFail writer.old }
     // After a fault of the capture, the replies of the messages of the whole records before it stand; after too many
     // messages, those of the messages within the limit; else a prefix of what was due.
-    ensures fault { IfErr result (Leaves (reply_texts (terms_of F.files settings.now))
+    ensures fault { IfErr result (Leaves (reply_texts F.files settings.now.served)
         reader.old.bytes reader.new.bytes writer.old.bytes writer.new.bytes) }
     // A device is blamed exactly where it failed in this call; but one read that failed may go untold where the
     // messages before it are too many, where they can't be written, and where memory runs out.
@@ -82,7 +83,7 @@ pub fn staged_replay<
         reader.old.failures reader.new.failures result }
     ensures writes { CountsBy writer_failures writer.old.failures writer.new.failures result }
     ensures ok { IfOk result
-        (Answers (terms_of F.files settings.now) reader.old.bytes writer.old.bytes writer.new.bytes) }
+        (Answers F.files settings.now.served reader.old.bytes writer.old.bytes writer.new.bytes) }
 {
     let server = Server::<F> {
         alloc,
@@ -95,9 +96,13 @@ pub fn staged_replay<
 
 /// What replays a capture.
 trait Replays {
+    ghost use Rattle.std.specs.Prelude.{List};
+    ghost use Rattle.paths.specs.declared.file.File.{File};
     ghost use Rattle.reference.specs.Reference.{Terms};
 
-    /// What it replays by.
+    /// What it serves: files, by these terms.
+    ghost files: { Self → List File };
+
     ghost terms: { Self → Terms };
 
     /// What it asks of its threads and its crew.
@@ -113,7 +118,7 @@ trait Replays {
         requires devices { CanFail reader.old × CanFail writer.old }
         // After a fault of the capture, the replies of the messages of the whole records before it stand; after too
         // many messages, those of the messages within the limit; else a prefix of what was due.
-        ensures fault { IfErr result (Stopped (reply_texts (terms self.now))
+        ensures fault { IfErr result (Stopped (reply_texts (files self.now) (terms self.now))
             reader.old.bytes reader.new.bytes writer.old.bytes writer.new.bytes) }
         // A device is blamed exactly where it failed in this call; but one read that failed may go untold where the
         // messages before it are too many, where they can't be written, and where memory runs out.
@@ -121,7 +126,7 @@ trait Replays {
             reader.old.failures reader.new.failures result }
         ensures writes { CountsBy writer_failures writer.old.failures writer.new.failures result }
         ensures ok { IfOk result
-            (Answers (terms self.now) reader.old.bytes writer.old.bytes writer.new.bytes) };
+            (Answers (files self.now) (terms self.now) reader.old.bytes writer.old.bytes writer.new.bytes) };
 }
 
 /// What the staged engine replays by.
@@ -152,22 +157,17 @@ fn replay_named<
     reader: &mut Input<R>,
     writer: &mut Output<W>,
 ) -> Result<Outcome, ReplayFault>
-    requires tariff { server.tariff ≡ K.tariff }
+    requires tariff { server.served.tariff ≡ K.tariff }
     requires book { register ≡ J.book }
     requires devices { CanFail reader.old × CanFail writer.old }
-    ensures { Replayed (terms_of F.files server.entry)
+    ensures { Replayed F.files server.entry.served
         reader.old.bytes reader.new.bytes writer.old.bytes writer.new.bytes
         reader.old.failures reader.new.failures writer.old.failures writer.new.failures result }
 {
     let alloc = server.alloc;
     let settings = server.settings;
     let cache = PageCache::<F>::new(alloc, settings.cache(), server.snapshot.len())?;
-    let serving = Serving::<F, K, T> {
-        rt,
-        server,
-        cache: Mutex::new(cache),
-        of: PhantomData,
-    };
+    let serving = Serving::<F, K, T>::new(rt, server, cache);
     replay_with(
         &serving,
         FloorSteps { serving: &serving },
@@ -199,7 +199,7 @@ fn replay_with<
 ) -> Result<Outcome, ReplayFault>
     requires can { AreFloorSteps F.files K.tariff S.step S.content S.count }
     requires devices { CanFail reader.old × CanFail writer.old }
-    ensures { Replayed (terms_of F.files serving.now.server)
+    ensures { Replayed F.files serving.now.server.served
         reader.old.bytes reader.new.bytes writer.old.bytes writer.new.bytes
         reader.old.failures reader.new.failures writer.old.failures writer.new.failures result }
 {
@@ -210,7 +210,16 @@ fn replay_with<
     replay_by(serving, &crew, &register, gate, reader, writer)
 }
 
-/// Replays by this crew, with as many threads as there are processors, and as the larger floor has workers.
+/// How many threads work: as many as the larger floor has workers, and no more than there are processors.
+fn threads_for(processors: usize, settings: &Settings) -> usize
+    ensures { result ≡ min processors
+        (max (workers settings.now.floors.front) (workers settings.now.floors.back)) }
+{
+    let workers = settings.front().workers().max(settings.back().workers());
+    processors.min(workers)
+}
+
+/// Replays by this crew, the calling thread and as many helpers as make up [`threads_for`].
 fn replay_by<
     'v,
     'a,
@@ -232,13 +241,11 @@ fn replay_by<
 ) -> Result<Outcome, ReplayFault>
     requires can { AreFloorSteps F.files K.tariff S.step S.content S.count }
     requires devices { CanFail reader.old × CanFail writer.old }
-    ensures { Replayed (terms_of F.files serving.now.server)
+    ensures { Replayed F.files serving.now.server.served
         reader.old.bytes reader.new.bytes writer.old.bytes writer.new.bytes
         reader.old.failures reader.new.failures writer.old.failures writer.new.failures result }
 {
-    let settings = serving.server.settings;
-    let workers = settings.front().workers().max(settings.back().workers());
-    let threads = processors(serving.rt).min(workers);
+    let threads = threads_for(processors(serving.rt), serving.server.settings);
     let staged = Staged {
         serving,
         crew,
@@ -272,7 +279,7 @@ where
     requires devices { CanFail reader.old × CanFail writer.old }
     // After a fault of the capture, the replies of the messages of the whole records before it stand; after too many
     // messages, those of the messages within the limit; else a prefix of what was due.
-    ensures fault { IfErr result (Stopped (reply_texts (P.terms staged.now))
+    ensures fault { IfErr result (Stopped (reply_texts (P.files staged.now) (P.terms staged.now))
         reader.old.bytes reader.new.bytes writer.old.bytes writer.new.bytes) }
     // A device is blamed exactly where it failed in this call; but one read that failed may go untold where the
     // messages before it are too many, where they can't be written, and where memory runs out.
@@ -280,7 +287,7 @@ where
         reader.old.failures reader.new.failures result }
     ensures writes { CountsBy writer_failures writer.old.failures writer.new.failures result }
     ensures ok { IfOk result
-        (Answers (P.terms staged.now) reader.old.bytes writer.old.bytes writer.new.bytes) }
+        (Answers (P.files staged.now) (P.terms staged.now) reader.old.bytes writer.old.bytes writer.new.bytes) }
 {
     beside(
         crew,
@@ -301,10 +308,11 @@ impl<
     G: Gate,
     T: Threads + Wait + Sync,
 > Replays for Staged<'v, 'a, F, K, C, Q, G, T> {
-    ghost use Rattle.reference.specs.Reference.{terms_of};
     ghost use denote.Param.Send.{IsSync};
 
-    ghost terms = { λ s. terms_of F.files s.serving.now.server };
+    ghost files = { λ s. F.files };
+
+    ghost terms = { λ s. s.serving.now.server.served };
 
     ghost shares = { λ s. IsSync T.row × AreFloorSteps F.files K.tariff C.step C.content C.count };
 
@@ -325,7 +333,7 @@ impl<
         let mut seats = Seats::new(alloc);
         let mut tiers = Tiers::new(alloc);
         let version = capture.version();
-        let mut desk = Desk {
+        let mut decider = Decider {
             start: capture.start(),
             controller: controller_of(alloc, settings)?,
             totals: Totals::new(alloc),
@@ -349,11 +357,11 @@ impl<
             &mut capture,
             &mut seats,
             &mut tiers,
-            &mut desk,
+            &mut decider,
             writer,
         )? {}
-        let answered = desk.totals.answered;
-        let outcome = outcome_of(version, desk);
+        let answered = decider.totals.answered;
+        let outcome = outcome_of(version, decider);
         write_last_line(alloc, writer, answered)?;
         Ok(outcome)
     }

@@ -45,6 +45,8 @@ tight_document =
     (member (codes "rate_min") (integer (pos 1000)) (member (codes "rate_max") (integer (pos 1000)) no_members)))))
     (member (codes "tier1") (table (member (codes "depth") (integer (pos 2)) no_members)) no_members)
 
-tiers : settings_of tight_document ≡ Ok (record default_choice { policies = tight ∷ record tight { depth = 2 } ∷ tight ∷ tight ∷ [] })
+tiers : settings_of tight_document ≡ Ok (record default_choice {
+  served = record default_choice.served { policies = tight ∷ record tight { depth = 2 } ∷ tight ∷ tight ∷ [] };
+})
 unfolding all_keys fits number_in numbers_in policy_of routes_of
 tiers = refl

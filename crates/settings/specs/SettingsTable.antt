@@ -55,15 +55,18 @@ chosen document = do
   tier3 ← policy_of document tables.Tier3
   routes ← routes_of document
   Ok (record {
-    front = front;
-    back = back;
-    batch = number_in document keys.Batch;
-    cache = number_in document keys.Cache;
-    tariff = record { costs = costs_with (number_in document); routes = routes };
-    policies = policy ∷ tier1
-        ∷ tier2 ∷ tier3 ∷ [];
-    retry_after = number_in document keys.RetryAfter;
-    speed = 100;
+    floors = record {
+      front = front;
+      back = back;
+      batch = number_in document keys.Batch;
+      cache = number_in document keys.Cache;
+    };
+    served = record {
+      tariff = record { costs = costs_with (number_in document); routes = routes };
+      policies = policy ∷ tier1 ∷ tier2 ∷ tier3 ∷ [];
+      retry_after = number_in document keys.RetryAfter;
+      speed = 100;
+    };
   })
 
 -- the settings of a document, or its first fault: a key that may not stand there, then the values of the keys in their
@@ -79,14 +82,18 @@ default_policy = policy_with (λ key. default_of (keys.InPolicy tables.Policy ke
 
 abbrev pub default_choice : Choice
 default_choice = record {
-  front = layout_of (defaults_of keys.FrontCuts) (defaults_of keys.FrontWorkers) (defaults_of keys.FrontCapacities);
-  back = layout_of (defaults_of keys.BackCuts) (defaults_of keys.BackWorkers) (defaults_of keys.BackCapacities);
-  batch = default_of keys.Batch;
-  cache = default_of keys.Cache;
-  tariff = record { costs = costs_with default_of; routes = [] };
-  policies = default_policy ∷ default_policy ∷ default_policy ∷ default_policy ∷ [];
-  retry_after = default_of keys.RetryAfter;
-  speed = 100;
+  floors = record {
+    front = layout_of (defaults_of keys.FrontCuts) (defaults_of keys.FrontWorkers) (defaults_of keys.FrontCapacities);
+    back = layout_of (defaults_of keys.BackCuts) (defaults_of keys.BackWorkers) (defaults_of keys.BackCapacities);
+    batch = default_of keys.Batch;
+    cache = default_of keys.Cache;
+  };
+  served = record {
+    tariff = record { costs = costs_with default_of; routes = [] };
+    policies = default_policy ∷ default_policy ∷ default_policy ∷ default_policy ∷ [];
+    retry_after = default_of keys.RetryAfter;
+    speed = 100;
+  };
 }
 
 -- the document that a text of at most 65,536 bytes writes

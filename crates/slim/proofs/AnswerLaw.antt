@@ -12,7 +12,9 @@ use Rattle.http_requests.specs.declared.messages.Meaning.{Meaning}
 use Rattle.arrivals.specs.Reference.{Arrival, AreArrivals}
 use Rattle.arrivals.specs.declared.incoming.Origin.{Origin}
 use Rattle.arrivals.proofs.ArrivalLaws.{one_list_of_arrivals}
-use Rattle.reference.specs.Reference.{ArrivedCapture, Terms, replies_of, replies_text, handled, rejected_of, summary_of, outcome_of}
+use Rattle.reference.proofs.InOrder.{answered}
+use Rattle.reference.specs.Reference.{ArrivedCapture, Terms, replies_of, replies_text, handled, rejected_of, summary_of}
+use Rattle.reference.specs.Outcomes.{outcome_of}
 use Rattle.reference.specs.Explaining.{table}
 use Rattle.reference.specs.Laws.{asked_by, told_in}
 use Rattle.reference.specs.declared.summary.Outcome.{Outcome}
@@ -25,6 +27,7 @@ use Rattle.slim.specs.Slims.{seen, slimmed}
 use Rattle.slim.specs.Laws.{IsSlim, IsKept, SlimKeepsReplies, SlimKeepsRows, SlimKeepsDecisions}
 use Rattle.slim.proofs.KeptTargets.{kept_all}
 use Rattle.slim.proofs.SameAnswers.{change_nothing}
+use Rattle.paths.specs.declared.file.File.{File}
 
 -- what answers depend on is seen
 abbrev asked_of : Origin × ℕ × Meaning → Origin × Meaning
@@ -78,51 +81,49 @@ beside queries to text slim s is read =
     }
 
 -- what both come to
-record Alike (terms : Terms) (start : ℕ) (xs ys : List Arrival) : Type 0 where
-  replies : replies_of terms start (handled terms xs) ≡ replies_of terms start (handled terms ys)
-  rejected : rejected_of (handled terms xs) ≡ rejected_of (handled terms ys)
-  summary : summary_of terms xs ≡ summary_of terms ys
+record Alike (files : List File) (terms : Terms) (start : ℕ) (xs ys : List Arrival) : Type 0 where
+  replies : replies_of files terms start (handled files terms xs) ≡ replies_of files terms start (handled files terms ys)
+  rejected : rejected_of (handled files terms xs) ≡ rejected_of (handled files terms ys)
+  summary : summary_of files terms xs ≡ summary_of files terms ys
 
-alike : (queries : Queries) (to : Version) (text slim : List ℕ) (s : IsSlim queries to text slim) (read : ArrivedCapture (Some text)) (b : Beside queries to text slim s read) (terms : Terms)
-    → Alike terms read.capture.start b.own.arrivals read.arrivals
-alike queries to text slim s read b terms =
+alike : (queries : Queries) (to : Version) (text slim : List ℕ) (s : IsSlim queries to text slim) (read : ArrivedCapture (Some text)) (b : Beside queries to text slim s read) (files : List File) (terms : Terms)
+    → Alike files terms read.capture.start b.own.arrivals read.arrivals
+alike queries to text slim s read b files terms =
     let start = read.capture.start in
-    let same = by_meaning terms start b.own.arrivals (kept_arrivals queries s.arrivals) b.asked in
-    let nothing = change_nothing queries terms start s.arrivals in
+    let same = by_meaning files terms start b.own.arrivals (kept_arrivals queries s.arrivals) b.asked in
+    let nothing = change_nothing queries files terms start s.arrivals in
     let one : s.arrivals ≡ read.arrivals = sym b.arrivals in
     record {
-      replies = same.0 ∙ nothing.0 ∙ ap (λ xs. replies_of terms start (handled terms xs)) one;
-      rejected = same.1 ∙ nothing.1 ∙ ap (λ xs. rejected_of (handled terms xs)) one;
-      summary = same.2 ∙ nothing.2 ∙ ap (summary_of terms) one;
+      replies = same.0 ∙ nothing.0 ∙ ap (λ xs. replies_of files terms start (handled files terms xs)) one;
+      rejected = same.1 ∙ nothing.1 ∙ ap (λ xs. rejected_of (handled files terms xs)) one;
+      summary = same.2 ∙ nothing.2 ∙ ap (summary_of files terms) one;
     }
 
 pub keeps_replies : SlimKeepsReplies
-keeps_replies terms queries to text slim old new outcome s is a =
+keeps_replies files terms queries to text slim old new outcome s is a =
     let b = beside queries to text slim s is a.read in
-    let same = alike queries to text slim s a.read b terms in
-    let replies : replies_of terms a.read.capture.start (handled terms a.read.arrivals) ≡ replies_of terms b.own.capture.start (handled terms b.own.arrivals) =
-    sym same.replies ∙ ap (λ t. replies_of terms t (handled terms b.own.arrivals)) (sym b.start) in
-    record {
-      read = b.own;
-      written = subst (λ rs. Appends old new (replies_text rs)) replies a.written;
-      outcome_is = same_outcome (told_in (later to s.version) outcome) (outcome_of b.own.capture.version terms b.own.arrivals) (sym b.version)
-          (ap (λ (o : Outcome). o.rejected) a.outcome_is ∙ sym same.rejected) (ap (λ (o : Outcome). o.summary) a.outcome_is ∙ sym same.summary);
-    }
+    let same = alike queries to text slim s a.read b files terms in
+    let replies : replies_of files terms a.read.capture.start (handled files terms a.read.arrivals) ≡ replies_of files terms b.own.capture.start (handled files terms b.own.arrivals) =
+    sym same.replies ∙ ap (λ t. replies_of files terms t (handled files terms b.own.arrivals)) (sym b.start) in
+    answered files terms (Some slim) old new (told_in (later to s.version) outcome) b.own
+    (subst (λ rs. Appends old new (replies_text rs)) replies a.written_exactly)
+    (same_outcome (told_in (later to s.version) outcome) (outcome_of b.own.capture.version files terms b.own.arrivals) (sym b.version)
+    (a.listed_exactly ∙ sym same.rejected) (a.figures ∙ sym same.summary))
 
 pub keeps_decisions : SlimKeepsDecisions
-keeps_decisions terms queries to text slim old new other outcome s is a written =
+keeps_decisions files terms queries to text slim old new other outcome s is a written =
     let b = beside queries to text slim s is a.read in
-    let same = alike queries to text slim s a.read b terms in
-    let rows = by_meaning terms b.own.capture.start b.own.arrivals (kept_arrivals queries s.arrivals) b.asked in
+    let same = alike queries to text slim s a.read b files terms in
+    let rows = by_meaning files terms b.own.capture.start b.own.arrivals (kept_arrivals queries s.arrivals) b.asked in
     record {
       read = b.own;
       written = subst (λ (t : List ℕ). Appends old other t) (sym rows.3) written;
-      outcome_is = same_outcome (told_in (later to s.version) outcome) (outcome_of b.own.capture.version terms b.own.arrivals) (sym b.version)
+      outcome_is = same_outcome (told_in (later to s.version) outcome) (outcome_of b.own.capture.version files terms b.own.arrivals) (sym b.version)
           (ap (λ (o : Outcome). o.rejected) a.outcome_is ∙ sym same.rejected) (ap (λ (o : Outcome). o.summary) a.outcome_is ∙ sym same.summary);
     }
 
 pub keeps_rows : SlimKeepsRows
-keeps_rows terms to text slim old new outcome s is a =
+keeps_rows files terms to text slim old new outcome s is a =
     let b = beside Kept to text slim s is a.read in
-    let rows : table terms a.read.arrivals ≡ table terms (kept_arrivals Kept s.arrivals) = ap (table terms) (b.arrivals ∙ sym (kept_all s.arrivals)) in
-    keeps_decisions terms Kept to text slim old new new outcome s is a (subst (λ (t : List ℕ). Appends old new t) rows a.written)
+    let rows : table files terms a.read.arrivals ≡ table files terms (kept_arrivals Kept s.arrivals) = ap (table files terms) (b.arrivals ∙ sym (kept_all s.arrivals)) in
+    keeps_decisions files terms Kept to text slim old new new outcome s is a (subst (λ (t : List ℕ). Appends old new t) rows a.written)

@@ -22,6 +22,7 @@ use Rattle.http_requests.specs.declared.heads.Verdict.{Verdict}
 use Rattle.http_requests.specs.declared.messages.Meaning.{Meaning}
 use Rattle.http_requests.specs.Reference.{IsVerdict}
 use Rattle.slim.specs.Blocks.{block_of}
+use Rattle.paths.specs.declared.file.File.{File}
 
 -- The canonical block of what a block says has the same verdict, but for the body: it has none. So has that of the
 -- meaning without its query, which is no longer.
@@ -42,20 +43,20 @@ abbrev pub QueryIsGone : Type 0
 QueryIsGone = (target : List ℕ) → list_any (λ b. b == question_mark) (without_query target) ≡ false
 
 -- what the rows of these messages after the earlier ones say, each in turn, but for their targets
-unfoldable pub rows_but_targets : Terms → List Arrival → List Arrival → List (Row × List ℕ)
-rows_but_targets terms earlier [] = []
-rows_but_targets terms earlier (a ∷ arrivals) = (row_of terms earlier a, method_of a.message.what)
-    ∷ rows_but_targets terms (earlier ++ a ∷ []) arrivals
+unfoldable pub rows_but_targets : List File → Terms → List Arrival → List Arrival → List (Row × List ℕ)
+rows_but_targets files terms earlier [] = []
+rows_but_targets files terms earlier (a ∷ arrivals) = (row_of files terms earlier a, method_of a.message.what)
+    ∷ rows_but_targets files terms (earlier ++ a ∷ []) arrivals
 
 -- Messages without their queries have the same replies, the same are turned away, the summary is the same, and so is
 -- what the table says of each but for its target.
 abbrev pub QueriesChangeNothing : Type 0
-QueriesChangeNothing = (queries : Queries) (terms : Terms) (start : ℕ) (arrivals : List Arrival)
-    → (replies_of terms start (handled terms (kept_arrivals queries arrivals))
-    ≡ replies_of terms start (handled terms arrivals))
-    × (rejected_of (handled terms (kept_arrivals queries arrivals)) ≡ rejected_of (handled terms arrivals))
-    × (summary_of terms (kept_arrivals queries arrivals) ≡ summary_of terms arrivals)
-    × (rows_but_targets terms [] (kept_arrivals queries arrivals) ≡ rows_but_targets terms [] arrivals)
+QueriesChangeNothing = (queries : Queries) (files : List File) (terms : Terms) (start : ℕ) (arrivals : List Arrival)
+    → (replies_of files terms start (handled files terms (kept_arrivals queries arrivals))
+    ≡ replies_of files terms start (handled files terms arrivals))
+    × (rejected_of (handled files terms (kept_arrivals queries arrivals)) ≡ rejected_of (handled files terms arrivals))
+    × (summary_of files terms (kept_arrivals queries arrivals) ≡ summary_of files terms arrivals)
+    × (rows_but_targets files terms [] (kept_arrivals queries arrivals) ≡ rows_but_targets files terms [] arrivals)
 
 -- the one text is the slim text of the other
 pub record IsSlim (queries : Queries) (to : Version) (old new : List ℕ) : Type 0 where
@@ -91,20 +92,22 @@ SlimAgain = (queries : Queries) (to : Version) (old new again : List ℕ) (first
 -- the settings: the same replies, byte for byte, the same messages turned away, the same summary; and the same table of
 -- decisions, or without queries that of the arrivals without them.
 abbrev pub SlimKeepsReplies : Type 0
-SlimKeepsReplies = (terms : Terms) (queries : Queries) (to : Version) (text slim : List ℕ) (old new : Option (List ℕ))
+SlimKeepsReplies = (files : List File) (terms : Terms) (queries : Queries) (to : Version) (text slim : List ℕ)
+    (old new : Option (List ℕ))
     (outcome : Outcome) (s : IsSlim queries to text slim) → IsKept s
-    → Answers terms (Some text) old new outcome
-    → Answers terms (Some slim) old new (told_in (later to s.version) outcome)
+    → Answers files terms (Some text) old new outcome
+    → Answers files terms (Some slim) old new (told_in (later to s.version) outcome)
 
 abbrev pub SlimKeepsRows : Type 0
-SlimKeepsRows = (terms : Terms) (to : Version) (text slim : List ℕ) (old new : Option (List ℕ)) (outcome : Outcome)
+SlimKeepsRows = (files : List File) (terms : Terms) (to : Version) (text slim : List ℕ) (old new : Option (List ℕ))
+    (outcome : Outcome)
     (s : IsSlim Kept to text slim) → IsKept s
-    → Explains terms (Some text) old new outcome
-    → Explains terms (Some slim) old new (told_in (later to s.version) outcome)
+    → Explains files terms (Some text) old new outcome
+    → Explains files terms (Some slim) old new (told_in (later to s.version) outcome)
 
 abbrev pub SlimKeepsDecisions : Type 0
-SlimKeepsDecisions = (terms : Terms) (queries : Queries) (to : Version) (text slim : List ℕ)
+SlimKeepsDecisions = (files : List File) (terms : Terms) (queries : Queries) (to : Version) (text slim : List ℕ)
     (old new slim_new : Option (List ℕ)) (outcome : Outcome) (s : IsSlim queries to text slim) → IsKept s
-    → Explains terms (Some text) old new outcome
-    → Appends old slim_new (table terms (kept_arrivals queries s.arrivals))
-    → Explains terms (Some slim) old slim_new (told_in (later to s.version) outcome)
+    → Explains files terms (Some text) old new outcome
+    → Appends old slim_new (table files terms (kept_arrivals queries s.arrivals))
+    → Explains files terms (Some slim) old slim_new (told_in (later to s.version) outcome)

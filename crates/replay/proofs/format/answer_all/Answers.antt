@@ -1,7 +1,6 @@
 use Rattle.std.proofs.Common.{◌≡◌, ℕ, ◌+◌, List, [], ◌∷◌, ◌++◌, refl, sym, ap, ◌∙◌, arith, append-nil, take, get_or}
 use Rattle.std.proofs.lemmas.Grind.{common_steps}
 use Rattle.std.proofs.lemmas.List.{append_assoc}
-use Rattle.reference.specs.Reference.{terms_of}
 use Rattle.arrivals.specs.Reference.{Arrival}
 use Rattle.arrivals.specs.Connections.{arrivals_with}
 use Rattle.replay.proofs.Writing.{arrivals_step}
@@ -12,7 +11,7 @@ use Rattle.replay.proofs.format.answer_all.Goals as goal
 pub loop-message-init : goal.loop-message-init
 loop-message-init g c = (
   λ arrivals place id stands. rw (append-nil arrivals) stands,
-  λ arrivals place id stands. wrote_none _ c.args.desk.now.start arrivals c.args.writer.now.bytes (c.requires.texts (terms_of g.F.Tree.files c.args.server.now)),
+  λ arrivals place id stands. wrote_none _ c.args.decider.now.start arrivals c.args.writer.now.bytes (c.requires.texts g.F.Tree.files c.args.server.now.served),
   refl,
   omega arith,
   refl,
@@ -30,7 +29,7 @@ pub write_message-requires-clause-few : goal.write_message-requires-clause-few
 write_message-requires-clause-few g c =
     let within = c.loop-message.invariant.5 in
     let limit = c.requires.limit.1 in
-    let other = c.if-desk-most.false in
+    let other = c.if-decider-most.false in
     omega (arith, within, limit, other)
 
 pub returns-in_err-write_message-clause-many : goal.returns-in_err-write_message-clause-many
@@ -50,12 +49,12 @@ returns-in_err-write_message-clause-part g c =
       i + 1,
       omega (arith, lt),
       (let within = inv.5 in
-          let other = c.if-desk-most.false in
+          let other = c.if-decider-most.false in
           omega (arith, at, within, other)),
       λ arrivals place id stands.
           (let sofar = arrivals_with place id c.args.origin (take i messages) in
           let part = c.in_err-write_message.ensures.part (arrivals ++ sofar) (record { origin = c.args.origin; connection = id; place = place; message = get_or messages i m }) (inv.0 arrivals place id stands) refl (ap (λ x. x.what) (sym c.message-item.is)) in
-          rw (arrivals_step place id c.args.origin messages i m lt) (wrote_part _ c.args.desk.now.start arrivals sofar _ _ _ _ (c.requires.texts (terms_of g.F.Tree.files c.args.server.now)) (inv.1 arrivals place id stands) (rw inv.2 at part))),
+          rw (arrivals_step place id c.args.origin messages i m lt) (wrote_part _ c.args.decider.now.start arrivals sofar _ _ _ _ (c.requires.texts g.F.Tree.files c.args.server.now.served) (inv.1 arrivals place id stands) (rw inv.2 at part))),
     )))
     c.from_residual.ensures.1
 
@@ -74,11 +73,11 @@ loop-message-preserved g c =
       λ arrivals place id stands. rw (arrivals_step place id c.args.origin messages i m lt)
           (rw (append_assoc arrivals (sofar place id) (a place id ∷ [])) at (one.stands (arrivals ++ sofar place id) (a place id) (inv.0 arrivals place id stands).counted refl what)),
       λ arrivals place id stands. rw (arrivals_step place id c.args.origin messages i m lt)
-          (wrote_more _ c.args.desk.now.start arrivals (sofar place id) (a place id ∷ []) _ _ _ (c.requires.texts (terms_of g.F.Tree.files c.args.server.now)) (inv.1 arrivals place id stands) (rw inv.2 at (one.written (arrivals ++ sofar place id) (a place id) (inv.0 arrivals place id stands) refl what))),
+          (wrote_more _ c.args.decider.now.start arrivals (sofar place id) (a place id ∷ []) _ _ _ (c.requires.texts g.F.Tree.files c.args.server.now.served) (inv.1 arrivals place id stands) (rw inv.2 at (one.written (arrivals ++ sofar place id) (a place id) (inv.0 arrivals place id stands) refl what))),
       one.start ∙ inv.2,
       (let n = one.number in omega (arith, n, at)),
       one.failures ∙ inv.4,
-      (let n = one.number in let within = inv.5 in let other = c.if-desk-most.false in omega (arith, n, within, other)),
+      (let n = one.number in let within = inv.5 in let other = c.if-decider-most.false in omega (arith, n, within, other)),
     )
 
 pub returns-clause-stands : goal.returns-clause-stands

@@ -9,7 +9,7 @@ use Rattle.replay.proofs.front.run_front.Goals as goal
 pub returns : goal.returns
 returns g c =
     let files = g.F.Tree.files in
-    let tariff = c.args.floors.now.serving.now.server.tariff in
+    let tariff = c.args.floors.now.serving.now.server.served.tariff in
     let messages = c.args.messages.items in
     let arrived = c.in_ok-arrived.arrived.items in
     let lots = c.in_ok-lots.lots.items in

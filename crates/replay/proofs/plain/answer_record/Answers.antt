@@ -1,6 +1,5 @@
 use Rattle.std.proofs.Common.{ℕ, ◌≡◌, ◌∙◌, ap, sym, length, arith, ◌≤◌, ◌+◌, inr}
 use Rattle.captures.specs.Captures.{size_of, sizes_of}
-use Rattle.reference.specs.Reference.{terms_of}
 use Rattle.replay.proofs.ByRecord.{has_room, serves_end, serves_tier, serves_piece, serves_full, serves_part, brought, on_ok, err_many, err_cut}
 use Rattle.replay.proofs.Upcoming.{ok_all}
 use Rattle.arrivals.proofs.Tiered.{number_in, tiers_piece, tiers_end, tiers_tier}
@@ -16,11 +15,11 @@ read-requires-clause-room g c =
     let given = c.requires.room in
     let size : size_of c.args.next.now ≡ length c.as_slice.result.now = ap size_of c.in-Piece.is ∙ ap length (sym c.as_slice.ensures) in
     let fits : sizes_of given.0 + length c.as_slice.result.now ≤ 1125899906842624 = (let h = given.3 in omega (arith, size, h)) in
-    has_room (terms_of g.F.Tree.files c.args.server.now) given.0 given.1 (g.C.Reading.connections c.args.connections.now) c.args.desk.now c.from-in-Piece.result (length c.as_slice.result.now) (rw c.from-in-Piece.ensures (number_in _ _ _ c.in-Piece.is c.requires.record.1)) given.2 fits
+    has_room g.F.Tree.files c.args.server.now.served given.0 given.1 (g.C.Reading.connections c.args.connections.now) c.args.decider.now c.from-in-Piece.result (length c.as_slice.result.now) (rw c.from-in-Piece.ensures (number_in _ _ _ c.in-Piece.is c.requires.record.1)) given.2 fits
 
 pub returns-in-End-clause-serves : goal.returns-in-End-clause-serves
 returns-in-End-clause-serves g c = λ records arrivals tiers serves.
-    serves_end (g.T.Format.texts (terms_of g.F.Tree.files c.args.server.now)) (terms_of g.F.Tree.files c.args.server.now) _ c.in-End.conn c.from.result records arrivals c.args.next.now (g.C.Reading.connections c.args.connections.now) (g.C.Reading.connections c.close.new.self) _ c.args.desk.now c.args.writer.now.bytes (c.requires.texts (terms_of g.F.Tree.files c.args.server.now)) c.in-End.is c.from.ensures (number_in _ _ _ c.in-End.is c.requires.record.1) c.close.ensures.own c.close.ensures.others tiers serves
+    serves_end (g.T.Format.texts g.F.Tree.files c.args.server.now.served) g.F.Tree.files c.args.server.now.served _ c.in-End.conn c.from.result records arrivals c.args.next.now (g.C.Reading.connections c.args.connections.now) (g.C.Reading.connections c.close.new.self) _ c.args.decider.now c.args.writer.now.bytes (c.requires.texts g.F.Tree.files c.args.server.now.served) c.in-End.is c.from.ensures (number_in _ _ _ c.in-End.is c.requires.record.1) c.close.ensures.own c.close.ensures.others tiers serves
 
 pub returns-in-End-clause-tiers : goal.returns-in-End-clause-tiers
 returns-in-End-clause-tiers g c = λ records are. tiers_end _ _ _ records _ _ c.in-End.is (number_in _ _ _ c.in-End.is c.requires.record.1) c.«end».ensures are
@@ -30,48 +29,48 @@ returns-in_ok-give-in-Tier-clause-tiers g c = λ records are. tiers_tier _ _ _ r
 
 pub returns-in_ok-read-in-Piece-clause-serves : goal.returns-in_ok-read-in-Piece-clause-serves
 returns-in_ok-read-in-Piece-clause-serves g c =
-    let terms = terms_of g.F.Tree.files c.args.server.now in
+    let files = g.F.Tree.files in let terms = c.args.server.now.served in
     let o : Origin = record { conn = c.in-Piece.conn; tick = c.in-Piece.tick; tier = c.of.result } in
     let low = number_in _ _ _ c.in-Piece.is c.requires.record.1 in
     on_ok c.answer_all.result _ _ _ _ c.answer_all.ensures.stands c.answer_all.ensures.written c.answer_all.ensures.start
     (λ stands written start records arrivals tiers serves.
-    (let brings = brought terms c.in-Piece.tick c.in-Piece.conn c.from-in-Piece.result o c.in-Piece.bytes c.as_slice.result.now c.deref.result.now c.read.new.out.items records arrivals c.args.next.now (g.C.Reading.connections c.args.connections.now) (g.C.Reading.connections c.read.new.self) c.args.desk.now
+    (let brings = brought files terms c.in-Piece.tick c.in-Piece.conn c.from-in-Piece.result o c.in-Piece.bytes c.as_slice.result.now c.deref.result.now c.read.new.out.items records arrivals c.args.next.now (g.C.Reading.connections c.args.connections.now) (g.C.Reading.connections c.read.new.self) c.args.decider.now
     (from_own (c.of.ensures.tier ∙ tiers.each c.in-Piece.conn low)) low c.in-Piece.is c.from-in-Piece.ensures c.as_slice.ensures c.deref.ensures.value (record { own = c.in_ok-read-in-Piece.ensures.own; others = c.in_ok-read-in-Piece.ensures.others }) serves in
-    serves_piece (g.T.Format.texts terms) terms (connection_now c.in-Piece.conn records) o c.deref.result.now records arrivals c.args.next.now (g.C.Reading.connections c.read.new.self) c.args.desk.now c.answer_all.new.desk c.args.writer.now.bytes c.answer_all.new.writer.bytes
+    serves_piece (g.T.Format.texts files terms) files terms (connection_now c.in-Piece.conn records) o c.deref.result.now records arrivals c.args.next.now (g.C.Reading.connections c.read.new.self) c.args.decider.now c.answer_all.new.decider c.args.writer.now.bytes c.answer_all.new.writer.bytes
     brings start (stands arrivals (length records) (connection_now c.in-Piece.conn records) serves.stands) (written arrivals (length records) (connection_now c.in-Piece.conn records) serves.stands)))
 
 pub returns-in_ok-read-in-Piece-clause-many : goal.returns-in_ok-read-in-Piece-clause-many
 returns-in_ok-read-in-Piece-clause-many g c =
-    let terms = terms_of g.F.Tree.files c.args.server.now in
+    let files = g.F.Tree.files in let terms = c.args.server.now.served in
     let o : Origin = record { conn = c.in-Piece.conn; tick = c.in-Piece.tick; tier = c.of.result } in
     let low = number_in _ _ _ c.in-Piece.is c.requires.record.1 in
     err_many c.answer_all.result _ _
     (λ n full. (
       full.0,
       λ records arrivals tiers serves.
-          (let brings = brought terms c.in-Piece.tick c.in-Piece.conn c.from-in-Piece.result o c.in-Piece.bytes c.as_slice.result.now c.deref.result.now c.read.new.out.items records arrivals c.args.next.now (g.C.Reading.connections c.args.connections.now) (g.C.Reading.connections c.read.new.self) c.args.desk.now
+          (let brings = brought files terms c.in-Piece.tick c.in-Piece.conn c.from-in-Piece.result o c.in-Piece.bytes c.as_slice.result.now c.deref.result.now c.read.new.out.items records arrivals c.args.next.now (g.C.Reading.connections c.args.connections.now) (g.C.Reading.connections c.read.new.self) c.args.decider.now
           (from_own (c.of.ensures.tier ∙ tiers.each c.in-Piece.conn low)) low c.in-Piece.is c.from-in-Piece.ensures c.as_slice.ensures c.deref.ensures.value (record { own = c.in_ok-read-in-Piece.ensures.own; others = c.in_ok-read-in-Piece.ensures.others }) serves in
-          serves_full (g.T.Format.texts terms) terms c.args.most (connection_now c.in-Piece.conn records) o full.1 c.deref.result.now records arrivals c.args.next.now (g.C.Reading.connections c.read.new.self) (g.C.Reading.connections c.args.connections.now) c.args.desk.now c.args.writer.now.bytes c.answer_all.new.writer.bytes
+          serves_full (g.T.Format.texts files terms) files terms c.args.most (connection_now c.in-Piece.conn records) o full.1 c.deref.result.now records arrivals c.args.next.now (g.C.Reading.connections c.read.new.self) (g.C.Reading.connections c.args.connections.now) c.args.decider.now c.args.writer.now.bytes c.answer_all.new.writer.bytes
           brings serves full.2 full.3 (full.4 arrivals (length records) (connection_now c.in-Piece.conn records) serves.stands)),
     ))
     c.answer_all.ensures.many
 
 pub returns-in_ok-read-in-Piece-clause-part : goal.returns-in_ok-read-in-Piece-clause-part
 returns-in_ok-read-in-Piece-clause-part g c =
-    let terms = terms_of g.F.Tree.files c.args.server.now in
+    let files = g.F.Tree.files in let terms = c.args.server.now.served in
     let o : Origin = record { conn = c.in-Piece.conn; tick = c.in-Piece.tick; tier = c.of.result } in
     let low = number_in _ _ _ c.in-Piece.is c.requires.record.1 in
     err_cut c.answer_all.result _ _
     (λ short. inr (λ records arrivals tiers serves.
-    (let brings = brought terms c.in-Piece.tick c.in-Piece.conn c.from-in-Piece.result o c.in-Piece.bytes c.as_slice.result.now c.deref.result.now c.read.new.out.items records arrivals c.args.next.now (g.C.Reading.connections c.args.connections.now) (g.C.Reading.connections c.read.new.self) c.args.desk.now
+    (let brings = brought files terms c.in-Piece.tick c.in-Piece.conn c.from-in-Piece.result o c.in-Piece.bytes c.as_slice.result.now c.deref.result.now c.read.new.out.items records arrivals c.args.next.now (g.C.Reading.connections c.args.connections.now) (g.C.Reading.connections c.read.new.self) c.args.decider.now
     (from_own (c.of.ensures.tier ∙ tiers.each c.in-Piece.conn low)) low c.in-Piece.is c.from-in-Piece.ensures c.as_slice.ensures c.deref.ensures.value (record { own = c.in_ok-read-in-Piece.ensures.own; others = c.in_ok-read-in-Piece.ensures.others }) serves in
-    serves_part (g.T.Format.texts terms) terms c.args.most (connection_now c.in-Piece.conn records) o short.0 c.deref.result.now records arrivals c.args.next.now (g.C.Reading.connections c.read.new.self) (g.C.Reading.connections c.args.connections.now) c.args.desk.now c.args.writer.now.bytes c.answer_all.new.writer.bytes
+    serves_part (g.T.Format.texts files terms) files terms c.args.most (connection_now c.in-Piece.conn records) o short.0 c.deref.result.now records arrivals c.args.next.now (g.C.Reading.connections c.read.new.self) (g.C.Reading.connections c.args.connections.now) c.args.decider.now c.args.writer.now.bytes c.answer_all.new.writer.bytes
     brings serves short.2 (short.3 arrivals (length records) (connection_now c.in-Piece.conn records) serves.stands))))
     c.answer_all.ensures.part
 
 pub returns-in_ok-give-in-Tier-clause-serves : goal.returns-in_ok-give-in-Tier-clause-serves
 returns-in_ok-give-in-Tier-clause-serves g c = λ records arrivals tiers serves.
-    serves_tier (g.T.Format.texts (terms_of g.F.Tree.files c.args.server.now)) (terms_of g.F.Tree.files c.args.server.now) c.in-Tier.conn c.in-Tier.tier records arrivals c.args.next.now (g.C.Reading.connections c.args.connections.now) c.args.desk.now c.args.writer.now.bytes (c.requires.texts (terms_of g.F.Tree.files c.args.server.now)) c.in-Tier.is serves
+    serves_tier (g.T.Format.texts g.F.Tree.files c.args.server.now.served) g.F.Tree.files c.args.server.now.served c.in-Tier.conn c.in-Tier.tier records arrivals c.args.next.now (g.C.Reading.connections c.args.connections.now) c.args.decider.now c.args.writer.now.bytes (c.requires.texts g.F.Tree.files c.args.server.now.served) c.in-Tier.is serves
 
 pub returns-in_ok-read-in-Piece-clause-tiers : goal.returns-in_ok-read-in-Piece-clause-tiers
 returns-in_ok-read-in-Piece-clause-tiers g c = ok_all c.answer_all.result _ (λ records are. tiers_piece _ _ _ _ records _ c.in-Piece.is (number_in _ _ _ c.in-Piece.is c.requires.record.1) are)

@@ -3,6 +3,6 @@ use Rattle.reference.specs.Reference.{offers_of}
 use Rattle.replay.proofs.plain.outcome_of.Goals as goal
 
 pub returns-clause-summary : goal.returns-clause-summary
-returns-clause-summary c = λ terms arrivals stands.
-    let tiers = rw stands.counted.station at (c.tallies_of.ensures (offers_of terms arrivals) stands.counted.fits) in
+returns-clause-summary c = λ files terms arrivals stands.
+    let tiers = rw stands.counted.station at (c.tallies_of.ensures (offers_of files terms arrivals) stands.counted.fits) in
     rw (stands.counted.totals, tiers) refl

@@ -1,7 +1,6 @@
 use Rattle.std.proofs.Common.{◌∙◌, [], ◌∷◌, ◌++◌, ℕ, List, Option, refl, sym, ap, subst, arith, inl, inr, rules}
 use Rattle.std.specs.Io.KnownBytes.{Appends}
 use Rattle.devices.proofs.Appending.{prefix_all}
-use Rattle.reference.specs.Reference.{terms_of}
 use Rattle.replay.proofs.Texts.{text_begun, text_wrote}
 use Rattle.replay.proofs.Judging.{stands_none, passed_on, on_many, on_cut}
 use Rattle.arrivals.proofs.Gathering.{gave_some}
@@ -14,34 +13,34 @@ use Rattle.replay.proofs.plain.replay_writing.Goals as goal
 pub returns-in_err-begin-clause-fault : goal.returns-in_err-begin-clause-fault
 returns-in_err-begin-clause-fault g c =
     passed_on c.from_residual.result _ _
-    (λ f same. rw same (short_leaves (g.T.Format.texts (terms_of g.F.Tree.files c.args.settings.now)) c.args.reader.now.bytes _ _ _ c.in_err-begin.field-0.0 c.in_err-begin.ensures.own (inl (c.in_err-begin.ensures.part (terms_of g.F.Tree.files c.args.settings.now)))))
+    (λ f same. rw same (short_leaves (g.T.Format.texts g.F.Tree.files c.args.settings.now.served) c.args.reader.now.bytes _ _ _ c.in_err-begin.field-0.0 c.in_err-begin.ensures.own (inl (c.in_err-begin.ensures.part g.F.Tree.files c.args.settings.now.served))))
     c.from_residual.ensures.1
 
 pub returns-in-Err-clause-fault : goal.returns-in-Err-clause-fault
 returns-in-Err-clause-fault g c =
-    let written = c.in_ok-begin.ensures.written (terms_of g.F.Tree.files c.args.settings.now) in
+    let written = c.in_ok-begin.ensures.written g.F.Tree.files c.args.settings.now.served in
     rw c.from.ensures
-    (leaves_reported (g.T.Format.texts (terms_of g.F.Tree.files c.args.settings.now)) c.args.reader.now.bytes _ c.args.writer.now.bytes c.begin.new.writer.bytes c.in-Err.fault
-    (halts_first (g.T.Format.texts (terms_of g.F.Tree.files c.args.settings.now)) c.args.reader.now.bytes _ c.args.writer.now.bytes c.begin.new.writer.bytes _ written c.in-Err.ensures.fault.at c.in-Err.ensures.fault.foreseen (rw c.in-Err.is at c.open.follows.holds-at-none).1)
+    (leaves_reported (g.T.Format.texts g.F.Tree.files c.args.settings.now.served) c.args.reader.now.bytes _ c.args.writer.now.bytes c.begin.new.writer.bytes c.in-Err.fault
+    (halts_first (g.T.Format.texts g.F.Tree.files c.args.settings.now.served) c.args.reader.now.bytes _ c.args.writer.now.bytes c.begin.new.writer.bytes _ written c.in-Err.ensures.fault.at c.in-Err.ensures.fault.foreseen (rw c.in-Err.is at c.open.follows.holds-at-none).1)
     (inl (prefix_all c.args.writer.now.bytes c.begin.new.writer.bytes _ written)))
 
 pub returns-in_err-controller_of-clause-fault : goal.returns-in_err-controller_of-clause-fault
 returns-in_err-controller_of-clause-fault g c =
     passed_on c.from_residual-in_err-controller_of.result _ _
-    (λ f same. rw same (inl (prefix_all c.args.writer.now.bytes c.begin.new.writer.bytes _ (c.in_ok-begin.ensures.written (terms_of g.F.Tree.files c.args.settings.now)))))
+    (λ f same. rw same (inl (prefix_all c.args.writer.now.bytes c.begin.new.writer.bytes _ (c.in_ok-begin.ensures.written g.F.Tree.files c.args.settings.now.served))))
     c.from_residual-in_err-controller_of.ensures.1
 
 pub loop-next-init : goal.loop-next-init
 loop-next-init g c =
-    let terms = terms_of g.F.Tree.files c.args.settings.now in (
+    let files = g.F.Tree.files in let terms = c.args.settings.now.served in (
       (
         c.in-Ok.capture.progress.version,
         [],
         [],
         rw c.start.ensures c.in-Ok.ensures.ok.after,
-        serves_none terms c.new-connections.result _ c.new-connections.ensures (stands_none terms _ (c.in_ok-controller_of.ensures.station) c.in_ok-controller_of.ensures.fits c.in_ok-controller_of.ensures.clock c.new.ensures),
+        serves_none files terms c.new-connections.result _ c.new-connections.ensures (stands_none files terms _ (c.in_ok-controller_of.ensures.station) c.in_ok-controller_of.ensures.fits c.in_ok-controller_of.ensures.clock c.new.ensures),
         tiers_none c.new-tiers.result c.new-tiers.ensures,
-        text_begun (g.T.Format.texts terms) c.start.result c.args.writer.now.bytes c.begin.new.writer.bytes (c.in_ok-begin.ensures.texts terms) (c.in_ok-begin.ensures.written terms),
+        text_begun (g.T.Format.texts files terms) c.start.result c.args.writer.now.bytes c.begin.new.writer.bytes (c.in_ok-begin.ensures.texts files terms) (c.in_ok-begin.ensures.written files terms),
         c.version-version.ensures,
       ),
       refl,
@@ -55,7 +54,7 @@ loop-next-init g c =
 pub returns-in-Err-next_record-clause-fault : goal.returns-in-Err-next_record-clause-fault
 returns-in-Err-next_record-clause-fault g c =
     let inv = c.loop-next.invariant.0 in
-    halts_written (g.T.Format.texts (terms_of g.F.Tree.files c.args.settings.now)) (terms_of g.F.Tree.files c.args.settings.now) inv.0 c.args.reader.now.bytes _ _ c.next_record.new.self.input.now.bytes _ _ _ inv.1 inv.2 _ _ _ c.in-Err-next_record.fault c.from-in-Err-next_record.result c.from-in-Err-next_record.ensures inv.3 inv.4 inv.6
+    halts_written (g.T.Format.texts g.F.Tree.files c.args.settings.now.served) g.F.Tree.files c.args.settings.now.served inv.0 c.args.reader.now.bytes _ _ c.next_record.new.self.input.now.bytes _ _ _ inv.1 inv.2 _ _ _ c.in-Err-next_record.fault c.from-in-Err-next_record.result c.from-in-Err-next_record.ensures inv.3 inv.4 inv.6
     (c.in-Err-next_record.ensures.next _ _ _ _ inv.3).0 (c.in-Err-next_record.ensures.next _ _ _ _ inv.3).1 (search rules)
     (most_of inv.7 c.loop-next.invariant.6 c.loop-next.invariant.5)
 
@@ -82,9 +81,9 @@ answer_record-requires-clause-room g c =
 pub returns-in_err-answer_record-clause-fault : goal.returns-in_err-answer_record-clause-fault
 returns-in_err-answer_record-clause-fault g c =
     let inv = c.loop-next.invariant.0 in
-    let terms = terms_of g.F.Tree.files c.args.settings.now in
-    let t = g.T.Format.texts terms in
-    let laws = c.in_ok-begin.ensures.texts terms in
+    let files = g.F.Tree.files in let terms = c.args.settings.now.served in
+    let t = g.T.Format.texts files terms in
+    let laws = c.in_ok-begin.ensures.texts files terms in
     let fits = gave_some inv.0 _ _ _ inv.1 _ _ _ c.in-Ok-Some.field-0-is (c.in-Ok-Some.ensures.next _ _ _ _ inv.3).0 in
     let fault = c.in_err-answer_record.field-0.0 in
     let says = c.in_err-answer_record.ensures in
@@ -93,8 +92,8 @@ returns-in_err-answer_record-clause-fault g c =
     (on_many fault _ _ (λ n full. halts_full t inv.0 _ _ _ _ _ _ n _ inv.1 inv.2 (c.in-Ok-Some.next ∷ []) _ laws fits inv.6 full.0 (limit_of inv.7 c.loop-next.invariant.6) (full.1 inv.1 inv.2 inv.5 inv.4)) says.many)
     (on_cut fault _ _
     (λ short. elim short [
-      | inl none ↦ cut_among t terms _ _ _ _ _ _ _ _ _ _ _ inv.3 inv.4
-          (subst (λ (w : Option (List ℕ)). Appends c.args.writer.now.bytes w (t.so_far c.loop-next.desk.start inv.2)) (sym none) inv.6) (most_of inv.7 c.loop-next.invariant.6 c.loop-next.invariant.5)
+      | inl none ↦ cut_among t files terms _ _ _ _ _ _ _ _ _ _ _ inv.3 inv.4
+          (subst (λ (w : Option (List ℕ)). Appends c.args.writer.now.bytes w (t.so_far c.loop-next.decider.start inv.2)) (sym none) inv.6) (most_of inv.7 c.loop-next.invariant.6 c.loop-next.invariant.5)
       | inr part ↦ cut_part t inv.0 _ _ _ _ _ _ _ inv.1 inv.2 (c.in-Ok-Some.next ∷ []) _ laws fits inv.6 (limit_of inv.7 c.loop-next.invariant.6) (part inv.1 inv.2 inv.5 inv.4)
     ])
     says.part)))
@@ -104,7 +103,7 @@ pub loop-next-preserved-in_ok-answer_record : goal.loop-next-preserved-in_ok-ans
 loop-next-preserved-in_ok-answer_record g c =
     let inv = c.loop-next.invariant in
     let own = inv.0 in
-    let terms = terms_of g.F.Tree.files c.args.settings.now in
+    let files = g.F.Tree.files in let terms = c.args.settings.now.served in
     let one = c.in_ok-answer_record.ensures in
     let more = one.serves own.1 own.2 own.5 own.4 in (
       (
@@ -114,7 +113,7 @@ loop-next-preserved-in_ok-answer_record g c =
         rw one.start (gave_some own.0 _ _ _ own.1 _ _ _ c.in-Ok-Some.field-0-is (c.in-Ok-Some.ensures.next _ _ _ _ own.3).0),
         more.serves,
         one.tiers own.1 own.5,
-        rw one.start (text_wrote (g.T.Format.texts terms) c.loop-next.desk.start own.2 more.more _ _ _ (c.in_ok-begin.ensures.texts terms) own.6 (rw one.start at more.written)),
+        rw one.start (text_wrote (g.T.Format.texts files terms) c.loop-next.decider.start own.2 more.more _ _ _ (c.in_ok-begin.ensures.texts files terms) own.6 (rw one.start at more.written)),
         own.7,
       ),
       c.in-Ok-Some.ensures.stands.1 ∙ inv.1,
@@ -129,7 +128,7 @@ pub loop-next-preserved : goal.loop-next-preserved
 loop-next-preserved g c =
     let inv = c.loop-next.invariant in
     let own = inv.0 in
-    let terms = terms_of g.F.Tree.files c.args.settings.now in
+    let files = g.F.Tree.files in let terms = c.args.settings.now.served in
     let one = c.in_ok-answer_record.ensures in
     let more = one.serves own.1 own.2 own.5 own.4 in (
       (
@@ -139,7 +138,7 @@ loop-next-preserved g c =
         rw one.start (gave_some own.0 _ _ _ own.1 _ _ _ c.in-Ok-Some.field-0-is (c.in-Ok-Some.ensures.next _ _ _ _ own.3).0),
         more.serves,
         one.tiers own.1 own.5,
-        rw one.start (text_wrote (g.T.Format.texts terms) c.loop-next.desk.start own.2 more.more _ _ _ (c.in_ok-begin.ensures.texts terms) own.6 (rw one.start at more.written)),
+        rw one.start (text_wrote (g.T.Format.texts files terms) c.loop-next.decider.start own.2 more.more _ _ _ (c.in_ok-begin.ensures.texts files terms) own.6 (rw one.start at more.written)),
         own.7,
       ),
       c.in-Ok-Some.ensures.stands.1 ∙ inv.1,
@@ -154,15 +153,15 @@ pub returns-in_err-finish-clause-fault : goal.returns-in_err-finish-clause-fault
 returns-in_err-finish-clause-fault g c =
     let inv = c.loop-next.invariant.0 in
     passed_on c.from_residual-in_err-finish.result _ _
-    (λ f same. rw same (short_leaves (g.T.Format.texts (terms_of g.F.Tree.files c.args.settings.now)) _ _ _ _ c.in_err-finish.field-0.0 c.in_err-finish.ensures.own
-    (ends_short (g.T.Format.texts (terms_of g.F.Tree.files c.args.settings.now)) (terms_of g.F.Tree.files c.args.settings.now) inv.0 _ _ inv.1 inv.2 _ _ _ _ _ _ (c.in_ok-begin.ensures.texts (terms_of g.F.Tree.files c.args.settings.now)) inv.3.rules
-    (gave_end inv.0 _ _ _ inv.1 _ _ c.in-Ok-None.field-0-is (c.in-Ok-None.ensures.next _ _ _ _ inv.3).0) inv.4 inv.6 (c.in_err-finish.ensures.part (terms_of g.F.Tree.files c.args.settings.now)) refl (most_of inv.7 c.loop-next.invariant.6 c.loop-next.invariant.5))))
+    (λ f same. rw same (short_leaves (g.T.Format.texts g.F.Tree.files c.args.settings.now.served) _ _ _ _ c.in_err-finish.field-0.0 c.in_err-finish.ensures.own
+    (ends_short (g.T.Format.texts g.F.Tree.files c.args.settings.now.served) g.F.Tree.files c.args.settings.now.served inv.0 _ _ inv.1 inv.2 _ _ _ _ _ _ (c.in_ok-begin.ensures.texts g.F.Tree.files c.args.settings.now.served) inv.3.rules
+    (gave_end inv.0 _ _ _ inv.1 _ _ c.in-Ok-None.field-0-is (c.in-Ok-None.ensures.next _ _ _ _ inv.3).0) inv.4 inv.6 (c.in_err-finish.ensures.part g.F.Tree.files c.args.settings.now.served) refl (most_of inv.7 c.loop-next.invariant.6 c.loop-next.invariant.5))))
     c.from_residual-in_err-finish.ensures.1
 
 pub returns-clause-ok : goal.returns-clause-ok
 returns-clause-ok g c =
     let inv = c.loop-next.invariant.0 in
-    let terms = terms_of g.F.Tree.files c.args.settings.now in
-    all_written (g.T.Format.texts terms) terms inv.0 _ c.loop-next.desk.totals.answered inv.1 inv.2 c.loop-next.connections c.loop-next.desk _ _ _ _ _ (c.in_ok-begin.ensures.texts terms) inv.3.rules
-    (gave_end inv.0 _ _ _ inv.1 _ _ c.in-Ok-None.field-0-is (c.in-Ok-None.ensures.next _ _ _ _ inv.3).0) inv.4 inv.6 (c.in_ok-finish.ensures.written terms) refl (most_of inv.7 c.loop-next.invariant.6 c.loop-next.invariant.5) (c.outcome_of-outcome.ensures.version ∙ inv.7)
-    c.outcome_of-outcome.ensures.rejected (c.outcome_of-outcome.ensures.summary terms inv.2 inv.4.stands)
+    let files = g.F.Tree.files in let terms = c.args.settings.now.served in
+    all_written (g.T.Format.texts files terms) files terms inv.0 _ c.loop-next.decider.totals.answered inv.1 inv.2 c.loop-next.connections c.loop-next.decider _ _ _ _ _ (c.in_ok-begin.ensures.texts files terms) inv.3.rules
+    (gave_end inv.0 _ _ _ inv.1 _ _ c.in-Ok-None.field-0-is (c.in-Ok-None.ensures.next _ _ _ _ inv.3).0) inv.4 inv.6 (c.in_ok-finish.ensures.written files terms) refl (most_of inv.7 c.loop-next.invariant.6 c.loop-next.invariant.5) (c.outcome_of-outcome.ensures.version ∙ inv.7)
+    c.outcome_of-outcome.ensures.rejected (c.outcome_of-outcome.ensures.summary files terms inv.2 inv.4.stands)

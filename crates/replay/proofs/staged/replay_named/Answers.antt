@@ -10,3 +10,6 @@ returns-in_err-cache g c = record {
   writes = search rules;
   ok = search rules;
 }
+
+pub returns : goal.returns
+returns g c = rw c.new-serving.ensures at c.replay_with.ensures

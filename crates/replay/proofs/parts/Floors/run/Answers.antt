@@ -10,5 +10,5 @@ pub returns : goal.returns
 returns g c =
     let files = g.F.Tree.files in
     let serving = c.args.self.now.serving.now in
-    same_steps g.C.Carries.content (lot_value files) g.C.Carries.step (lot_step files serving.server.tariff) _ c.in_ok-arrived.arrived.items c.args.lots.items
+    same_steps g.C.Carries.content (lot_value files) g.C.Carries.step (lot_step files serving.server.served.tariff) _ c.in_ok-arrived.arrived.items c.args.lots.items
     (c.requires.can.0 ∙ ap (lot_step files) (sym serving.table)) c.requires.can.1 c.in_ok-arrived.ensures

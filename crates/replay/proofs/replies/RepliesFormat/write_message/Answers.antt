@@ -2,7 +2,6 @@ use Rattle.std.proofs.Common.{subst, refl}
 use Rattle.std.specs.Io.KnownBytes.{Appends}
 use Rattle.devices.proofs.Appending.{prefix_none}
 use Rattle.devices.specs.Devices.{AppendsPrefix}
-use Rattle.reference.specs.Reference.{terms_of}
 use Rattle.replay.proofs.Judging.{reply_written, on_err}
 use Rattle.replay.proofs.Upcoming.{ok_more, err_more}
 use Rattle.replay.proofs.replies.RepliesFormat.write_message.Goals as goal
@@ -19,7 +18,7 @@ pub returns-clause-written : goal.returns-clause-written
 returns-clause-written g c = ok_more c.answer_pending.result _ _
     (λ written arrivals a stands from meaning.
     (let slips = c.in_ok-pending.ensures.slip arrivals a stands.counted from meaning in
-    let all = reply_written _ (terms_of g.F.Tree.files c.args.server.now) c.args.desk.now.start arrivals a _ _ slips refl in
+    let all = reply_written _ g.F.Tree.files c.args.server.now.served c.args.decider.now.start arrivals a _ _ slips refl in
     subst (λ text. Appends c.args.writer.now.bytes c.answer_pending.new.writer.bytes text) all written))
     c.answer_pending.ensures.written
 
@@ -27,6 +26,6 @@ pub returns-clause-part : goal.returns-clause-part
 returns-clause-part g c = err_more c.answer_pending.result _ _
     (λ part arrivals a stands from meaning.
     (let slips = c.in_ok-pending.ensures.slip arrivals a stands.counted from meaning in
-    let all = reply_written _ (terms_of g.F.Tree.files c.args.server.now) c.args.desk.now.start arrivals a _ _ slips refl in
+    let all = reply_written _ g.F.Tree.files c.args.server.now.served c.args.decider.now.start arrivals a _ _ slips refl in
     subst (λ text. AppendsPrefix c.args.writer.now.bytes c.answer_pending.new.writer.bytes text) all part))
     c.answer_pending.ensures.part

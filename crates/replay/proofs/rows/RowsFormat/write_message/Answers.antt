@@ -2,7 +2,6 @@ use Rattle.std.proofs.Common.{subst, sym, ◌∙◌, ◌≤◌, arith}
 use Rattle.std.specs.Io.KnownBytes.{Appends}
 use Rattle.devices.specs.Devices.{AppendsPrefix}
 use Rattle.devices.proofs.Appending.{prefix_none, proper_is_prefix}
-use Rattle.reference.specs.Reference.{terms_of}
 use Rattle.replay.proofs.Judging.{on_err}
 use Rattle.replay.proofs.RowByRow.{costs_known, foreseen, stands_still, row_written}
 use Rattle.replay.proofs.rows.RowsFormat.write_message.Goals as goal
@@ -15,11 +14,11 @@ outlook-requires-clause-forward g c =
     let range = c.tick-tick.ensures.range in
     (late, omega (arith, most, range))
 
-pub settle-requires-clause-stands : goal.settle-requires-clause-stands
-settle-requires-clause-stands g c =
+pub decide_next-requires-clause-stands : goal.decide_next-requires-clause-stands
+decide_next-requires-clause-stands g c =
     let given = c.requires.stands in (
       given.0,
-      stands_still (terms_of g.F.Tree.files c.args.server.now) given.0 c.args.desk.now c.outlook.new.self c.outlook.ensures.same given.1.counted,
+      stands_still g.F.Tree.files c.args.server.now.served given.0 c.args.decider.now c.outlook.new.self c.outlook.ensures.same given.1.counted,
       λ counted counts. subst (λ t. t ≤ counted) (sym c.tick-tick.ensures.value ∙ sym c.outlook.ensures.clock) (counts c.args.origin.tick (omega arith)),
     )
 
@@ -37,27 +36,27 @@ returns-in_err-pending-clause-part g c =
 
 pub returns-clause-stands : goal.returns-clause-stands
 returns-clause-stands g c = λ arrivals a stands from meaning.
-    c.in_ok-pending.ensures.stands arrivals a (stands_still (terms_of g.F.Tree.files c.args.server.now) arrivals c.args.desk.now c.outlook.new.self c.outlook.ensures.same stands) from meaning
+    c.in_ok-pending.ensures.stands arrivals a (stands_still g.F.Tree.files c.args.server.now.served arrivals c.args.decider.now c.outlook.new.self c.outlook.ensures.same stands) from meaning
 
 pub returns-in_err-write_row-clause-part : goal.returns-in_err-write_row-clause-part
 returns-in_err-write_row-clause-part g c =
-    let terms = terms_of g.F.Tree.files c.args.server.now in
+    let files = g.F.Tree.files in let terms = c.args.server.now.served in
     on_err c.from_residual-in_err-write_row.result _
     (λ arrivals a stands from meaning.
-    (let still = stands_still terms arrivals c.args.desk.now c.outlook.new.self c.outlook.ensures.same stands.counted in
-    let finds = foreseen terms arrivals c.args.desk.now c.in_ok-found.found c.args.origin.tier c.tick-tick.result stands.counted c.in_ok-found.ensures.finds in
-    let costs = costs_known g.F.Tree.files c.args.server.now.tariff c.args.what.now a.message.what _ _ c.service_in-service.ensures.is c.in_ok-lookup.ensures meaning in
-    let row = c.row_of-row.ensures terms c.args.desk.now.start arrivals a from c.tick-tick.ensures.value costs finds (c.in_ok-pending.ensures.slip arrivals a still from meaning) in
-    let text = row_written terms arrivals a c.row_of-row.result c.args.what.now c.method_of.result.now c.target_of.result.now row meaning c.method_of.ensures c.target_of.ensures in
+    (let still = stands_still files terms arrivals c.args.decider.now c.outlook.new.self c.outlook.ensures.same stands.counted in
+    let finds = foreseen files terms arrivals c.args.decider.now c.in_ok-found.found c.args.origin.tier c.tick-tick.result stands.counted c.in_ok-found.ensures.finds in
+    let costs = costs_known g.F.Tree.files c.args.server.now.served.tariff c.args.what.now a.message.what _ _ c.service_in-service.ensures.is c.in_ok-lookup.ensures meaning in
+    let row = c.row_of-row.ensures files terms c.args.decider.now.start arrivals a from c.tick-tick.ensures.value costs finds (c.in_ok-pending.ensures.slip arrivals a still from meaning) in
+    let text = row_written files terms arrivals a c.row_of-row.result c.args.what.now c.method_of.result.now c.target_of.result.now row meaning c.method_of.ensures c.target_of.ensures in
     let part = proper_is_prefix _ _ _ c.in_err-write_row.ensures.prefix in
     subst (λ v. AppendsPrefix c.args.writer.now.bytes c.write_row.new.output.bytes v) text part))
 
 pub returns-clause-written : goal.returns-clause-written
 returns-clause-written g c = λ arrivals a stands from meaning.
-    let terms = terms_of g.F.Tree.files c.args.server.now in
-    let still = stands_still terms arrivals c.args.desk.now c.outlook.new.self c.outlook.ensures.same stands.counted in
-    let finds = foreseen terms arrivals c.args.desk.now c.in_ok-found.found c.args.origin.tier c.tick-tick.result stands.counted c.in_ok-found.ensures.finds in
-    let costs = costs_known g.F.Tree.files c.args.server.now.tariff c.args.what.now a.message.what _ _ c.service_in-service.ensures.is c.in_ok-lookup.ensures meaning in
-    let row = c.row_of-row.ensures terms c.args.desk.now.start arrivals a from c.tick-tick.ensures.value costs finds (c.in_ok-pending.ensures.slip arrivals a still from meaning) in
-    let text = row_written terms arrivals a c.row_of-row.result c.args.what.now c.method_of.result.now c.target_of.result.now row meaning c.method_of.ensures c.target_of.ensures in
+    let files = g.F.Tree.files in let terms = c.args.server.now.served in
+    let still = stands_still files terms arrivals c.args.decider.now c.outlook.new.self c.outlook.ensures.same stands.counted in
+    let finds = foreseen files terms arrivals c.args.decider.now c.in_ok-found.found c.args.origin.tier c.tick-tick.result stands.counted c.in_ok-found.ensures.finds in
+    let costs = costs_known g.F.Tree.files c.args.server.now.served.tariff c.args.what.now a.message.what _ _ c.service_in-service.ensures.is c.in_ok-lookup.ensures meaning in
+    let row = c.row_of-row.ensures files terms c.args.decider.now.start arrivals a from c.tick-tick.ensures.value costs finds (c.in_ok-pending.ensures.slip arrivals a still from meaning) in
+    let text = row_written files terms arrivals a c.row_of-row.result c.args.what.now c.method_of.result.now c.target_of.result.now row meaning c.method_of.ensures c.target_of.ensures in
     subst (λ v. Appends c.args.writer.now.bytes c.write_row.new.output.bytes v) text c.in_ok-write_row.ensures.prefix

@@ -1,6 +1,6 @@
 use Rattle.std.proofs.Common.{[], refl, ap, ◌∙◌, arith, inl, rules}
 use Rattle.devices.proofs.Appending.{prefix_all}
-use Rattle.reference.specs.Reference.{Choice, terms_of, station_for}
+use Rattle.reference.specs.Reference.{Choice, station_for}
 use Rattle.reference.specs.Texts.{reply_texts}
 use Rattle.arrivals.proofs.Tiered.{tiers_none}
 use Rattle.replay.specs.Waiting.{connections_of}
@@ -14,14 +14,14 @@ use Rattle.replay.proofs.staged.StagedReplays.replay.Goals as goal
 pub returns-in_err-write_first_line-clause-fault : goal.returns-in_err-write_first_line-clause-fault
 returns-in_err-write_first_line-clause-fault g c =
     passed_on c.from_residual.result _ _
-    (λ f same. rw same (record { leaves = short_leaves (reply_texts (terms_of g.F.Tree.files c.args.self.now.serving.now.server)) c.args.reader.now.bytes _ _ _ c.in_err-write_first_line.field-0.0 c.in_err-write_first_line.ensures.own (inl c.in_err-write_first_line.ensures.part) }))
+    (λ f same. rw same (record { leaves = short_leaves (reply_texts g.F.Tree.files c.args.self.now.serving.now.server.served) c.args.reader.now.bytes _ _ _ c.in_err-write_first_line.field-0.0 c.in_err-write_first_line.ensures.own (inl c.in_err-write_first_line.ensures.part) }))
     c.from_residual.ensures.1
 
 pub returns-in-Err-clause-fault : goal.returns-in-Err-clause-fault
 returns-in-Err-clause-fault g c = rw c.from.ensures
     (record {
-      leaves = leaves_reported (reply_texts (terms_of g.F.Tree.files c.args.self.now.serving.now.server)) c.args.reader.now.bytes _ c.args.writer.now.bytes c.write_first_line.new.writer.bytes c.in-Err.fault
-          (stops_first (terms_of g.F.Tree.files c.args.self.now.serving.now.server) c.args.reader.now.bytes _ c.args.writer.now.bytes c.write_first_line.new.writer.bytes _ c.in_ok-write_first_line.ensures.written c.in-Err.ensures.fault.at c.in-Err.ensures.fault.foreseen (rw c.in-Err.is at c.open.follows.holds-at-none).1)
+      leaves = leaves_reported (reply_texts g.F.Tree.files c.args.self.now.serving.now.server.served) c.args.reader.now.bytes _ c.args.writer.now.bytes c.write_first_line.new.writer.bytes c.in-Err.fault
+          (stops_first g.F.Tree.files c.args.self.now.serving.now.server.served c.args.reader.now.bytes _ c.args.writer.now.bytes c.write_first_line.new.writer.bytes _ c.in_ok-write_first_line.ensures.written c.in-Err.ensures.fault.at c.in-Err.ensures.fault.foreseen (rw c.in-Err.is at c.open.follows.holds-at-none).1)
           (inl (prefix_all c.args.writer.now.bytes c.write_first_line.new.writer.bytes _ c.in_ok-write_first_line.ensures.written));
     })
 
@@ -30,7 +30,7 @@ returns-in_err-controller_of-clause-fault g c = passed_on c.from_residual-in_err
 
 pub loop-messages-init : goal.loop-messages-init
 loop-messages-init g c =
-    let terms = terms_of g.F.Tree.files c.args.self.now.serving.now.server in (
+    let files = g.F.Tree.files in let terms = c.args.self.now.serving.now.server.served in (
       record {
         records = [];
         arrivals = [];
@@ -38,8 +38,8 @@ loop-messages-init g c =
         tiers_are = tiers_none c.new-tiers.result c.new-tiers.ensures;
         idle = waits_none _ c.new-seats.ensures;
         answered = record {
-          serves = serves_none terms _ _ (ap connections_of c.new-seats.ensures) (stands_none terms _ (c.in_ok-controller_of.ensures.station ∙ ap (λ (s : Choice). station_for (terms_of g.F.Tree.files s)) c.server.view_is) c.in_ok-controller_of.ensures.fits c.in_ok-controller_of.ensures.clock c.new.ensures);
-          replies = first_written terms c.start.result c.args.writer.now.bytes c.write_first_line.new.writer.bytes c.in_ok-write_first_line.ensures.written;
+          serves = serves_none files terms _ _ (ap connections_of c.new-seats.ensures) (stands_none files terms _ (c.in_ok-controller_of.ensures.station ∙ ap (λ (s : Choice). station_for s.served) c.server.view_is) c.in_ok-controller_of.ensures.fits c.in_ok-controller_of.ensures.clock c.new.ensures);
+          replies = first_written files terms c.start.result c.args.writer.now.bytes c.write_first_line.new.writer.bytes c.in_ok-write_first_line.ensures.written;
           limit = c.max_messages.ensures;
           within = (let none = ap (λ (t : Totals). t.answered) c.new.ensures in omega (arith, none));
         };
@@ -53,28 +53,28 @@ pub returns-in_err-serve_next-clause-fault : goal.returns-in_err-serve_next-clau
 returns-in_err-serve_next-clause-fault g c =
     passed_on c.from_residual-in_err-serve_next.result _ _
     (λ f same. rw same (record {
-      leaves = left_first (terms_of g.F.Tree.files c.args.self.now.serving.now.server) _ _ c.serve_next.new.capture.input.now.bytes _ _ _ (search rules)
+      leaves = left_first g.F.Tree.files c.args.self.now.serving.now.server.served _ _ c.serve_next.new.capture.input.now.bytes _ _ _ (search rules)
           (λ left. rw left (c.in_err-serve_next.ensures.fault _ _ _ c.loop-messages.invariant.0));
     }))
     c.from_residual-in_err-serve_next.ensures.1
 
 pub returns-in_err-write_last_line-clause-fault : goal.returns-in_err-write_last_line-clause-fault
 returns-in_err-write_last_line-clause-fault g c =
-    let terms = terms_of g.F.Tree.files c.args.self.now.serving.now.server in
-    let e = is_over _ terms _ _ _ _ _ _ _ _ _ _ c.if-branch.false (c.in_ok-serve_next.ensures.on _ _ _ c.loop-messages.invariant.0) in
+    let files = g.F.Tree.files in let terms = c.args.self.now.serving.now.server.served in
+    let e = is_over _ files terms _ _ _ _ _ _ _ _ _ _ c.if-branch.false (c.in_ok-serve_next.ensures.on _ _ _ c.loop-messages.invariant.0) in
     passed_on c.from_residual-in_err-write_last_line.result _ _
     (λ f same. rw same (record {
-      leaves = short_leaves (reply_texts terms) _ _ _ _ c.in_err-write_last_line.field-0.0 c.in_err-write_last_line.ensures.own
-          (ends_in_part terms c.version-version.result _ _ e.records e.arrivals _ _ _ _ _ _ e.rules e.whole e.answered.serves e.answered.replies c.in_err-write_last_line.ensures.part refl (within_format terms _ _ _ _ _ _ _ _ e.answered));
+      leaves = short_leaves (reply_texts files terms) _ _ _ _ c.in_err-write_last_line.field-0.0 c.in_err-write_last_line.ensures.own
+          (ends_in_part files terms c.version-version.result _ _ e.records e.arrivals _ _ _ _ _ _ e.rules e.whole e.answered.serves e.answered.replies c.in_err-write_last_line.ensures.part refl (within_format files terms _ _ _ _ _ _ _ _ e.answered));
     }))
     c.from_residual-in_err-write_last_line.ensures.1
 
 pub returns-clause-ok : goal.returns-clause-ok
 returns-clause-ok g c =
-    let terms = terms_of g.F.Tree.files c.args.self.now.serving.now.server in
-    let e = is_over _ terms _ _ _ _ _ _ _ _ _ _ c.if-branch.false (c.in_ok-serve_next.ensures.on _ _ _ c.loop-messages.invariant.0) in
-    answers_all terms c.version-version.result _ c.serve_next.new.desk.totals.answered e.records e.arrivals _ c.serve_next.new.desk _ _ _ _ _ e.rules e.whole e.answered.serves e.answered.replies c.in_ok-write_last_line.ensures.written refl
-    (within_format terms _ _ _ _ _ _ _ _ e.answered) c.outcome_of-outcome.ensures.version c.outcome_of-outcome.ensures.rejected (c.outcome_of-outcome.ensures.summary terms e.arrivals e.answered.serves.stands)
+    let files = g.F.Tree.files in let terms = c.args.self.now.serving.now.server.served in
+    let e = is_over _ files terms _ _ _ _ _ _ _ _ _ _ c.if-branch.false (c.in_ok-serve_next.ensures.on _ _ _ c.loop-messages.invariant.0) in
+    answers_all files terms c.version-version.result _ c.serve_next.new.decider.totals.answered e.records e.arrivals _ c.serve_next.new.decider _ _ _ _ _ e.rules e.whole e.answered.serves e.answered.replies c.in_ok-write_last_line.ensures.written refl
+    (within_format files terms _ _ _ _ _ _ _ _ e.answered) c.outcome_of-outcome.ensures.version c.outcome_of-outcome.ensures.rejected (c.outcome_of-outcome.ensures.summary files terms e.arrivals e.answered.serves.stands)
 
 pub serve_next-requires-sync-T : goal.serve_next-requires-sync-T
 serve_next-requires-sync-T g c = λ κs lives. c.requires.shares.0

@@ -1,7 +1,7 @@
 use Rattle.std.proofs.Common.{◌∙◌, sym, arith}
 use Rattle.reference.proofs.Offering.{finish_late}
-use Rattle.replay.proofs.Judging.{decides_admitted, decides_rejected, desk_sampled, desk_rejected}
-use Rattle.replay.proofs.desk.Desk.offer.Goals as goal
+use Rattle.replay.proofs.Judging.{decides_admitted, decides_rejected, decider_sampled, decider_rejected}
+use Rattle.replay.proofs.decider.Decider.offer.Goals as goal
 
 pub overflow_sub-finish : goal.overflow_sub-finish
 overflow_sub-finish c = finish_late _ _
@@ -16,9 +16,9 @@ overflow_add-finish c =
 pub returns-in_ok-push-in-Admitted : goal.returns-in_ok-push-in-Admitted
 returns-in_ok-push-in-Admitted c = λ offers fits samples.
     decides_admitted offers _ c.in-Admitted.finish _ _ _ _ c.in-Admitted.is (c.in_ok-finish.ensures.decision offers fits) c.in_ok-finish.ensures.next.2 (c.in_ok-finish.ensures.fits offers fits) c.in_ok-finish.ensures.clock samples
-    (desk_sampled c.args.self.now c.offer_delayed.new.self _ _ c.in_ok-push-in-Admitted.ensures.ok)
+    (decider_sampled c.args.self.now c.offer_delayed.new.self _ _ c.in_ok-push-in-Admitted.ensures.ok)
 
 pub returns-in_ok-push-in-Rejected : goal.returns-in_ok-push-in-Rejected
 returns-in_ok-push-in-Rejected c = λ offers fits samples.
     decides_rejected offers _ _ _ _ _ c.in-Rejected.is (c.in_ok-finish.ensures.decision offers fits) c.in_ok-finish.ensures.next.2 (c.in_ok-finish.ensures.fits offers fits) c.in_ok-finish.ensures.clock samples
-    (desk_rejected c.args.self.now c.offer_delayed.new.self _ c.in_ok-push-in-Rejected.ensures.ok)
+    (decider_rejected c.args.self.now c.offer_delayed.new.self _ c.in_ok-push-in-Rejected.ensures.ok)

@@ -1,10 +1,10 @@
-//! The desk: the controller and the totals, which see each message in its order, and decide on it.
+//! The decider: the controller and the totals, which see each message in its order, and decide on it.
 
 ghost use Rattle.std.specs.Prelude.{◌≡◌, ◌<◌, ◌≤◌, ◌∷◌, ◌&&◌, [], true, Bool, List, length, IfOk, ◌+◌, ◌++◌, map, OnOk};
 ghost use Rattle.admission.specs.Reference.{Offer};
 ghost use Rattle.admission.specs.After.{ControllerAfter};
 ghost use Rattle.admission.specs.Standing.{station_of};
-ghost use Rattle.reference.specs.Reference.{terms_of, answers_head, given, offer_at, samples_of, handled_next};
+ghost use Rattle.reference.specs.Reference.{answers_head, given, offer_at, samples_of, handled_next};
 ghost use Rattle.reference.specs.Reference.{handled_after};
 ghost use Rattle.reference.specs.Reference.{slip_of, tick_in};
 ghost use Rattle.replay.specs.Totals.{Decides};
@@ -13,7 +13,7 @@ ghost use Rattle.replay.specs.Backs.{given_by, only_head, has_location, is_due, 
 ghost use Rattle.std.specs.List.{list_all};
 ghost use Rattle.captures.specs.Reference.{max_start, max_tick};
 ghost use Rattle.arrivals.specs.Reference.{Arrival};
-ghost use Rattle.replay.specs.Serving.{Counted, DeskAfter, IsOnTime};
+ghost use Rattle.replay.specs.Serving.{Counted, DeciderAfter, IsOnTime};
 ghost use Rattle.replay.specs.Steps.{DecidesNext};
 ghost use Rattle.replay.specs.Waiting.{AreLookedUp, InTime};
 ghost use Rattle.replay.specs.declared.back.BackState.TheVariants.{Due as Waits};
@@ -33,7 +33,7 @@ use std::alloc::{AllocError, Global};
 
 /// Where the messages of a capture are decided on and counted, in the order of their arrival.
 #[derive(Drop)]
-pub struct Desk {
+pub struct Decider {
     /// When the capture begins, in seconds since 1970-01-01.
     pub start: u64,
     pub controller: Controller,
@@ -44,7 +44,7 @@ pub struct Desk {
 pub(crate) fn controller_of(alloc: Global, settings: &Settings) -> Result<Controller, AllocError>
     ensures fits { IfOk result (λ controller. ControllerAfter [] controller) }
     ensures station { IfOk result (λ controller. station_of controller
-        ≡ record { policies = settings.now.policies; servers = settings.now.tariff.costs.servers }) }
+        ≡ record { policies = settings.now.served.policies; servers = settings.now.served.tariff.costs.servers }) }
     ensures clock { IfOk result (λ controller. controller.clock ≡ 0) }
 {
     Controller::with_servers(
@@ -54,7 +54,7 @@ pub(crate) fn controller_of(alloc: Global, settings: &Settings) -> Result<Contro
     )
 }
 
-impl Desk {
+impl Decider {
     /// Offers a request of `tier` that comes at `tick`, takes `service` ticks, and whose response takes `delay` ticks
     /// beside that: whether it is turned away.
     fn offer(&mut self, tier: u8, tick: u64, service: u64, delay: u64) -> Result<bool, AllocError>
@@ -93,16 +93,16 @@ impl Desk {
     ) -> Result<Due<F>, AllocError>
         requires offers { (offers : List Offer) × ControllerAfter offers self.old.controller
             × (length offers < MAX_MESSAGES) }
-        requires clock { self.old.controller.clock ≤ tick_in (terms_of F.files server.now) origin }
+        requires clock { self.old.controller.clock ≤ tick_in server.now.served origin }
         requires tier { origin.tier < 4 }
         requires tick { origin.tick ≤ MAX_TICK }
-        requires lookup { lookup ≡ lookup_of F.files server.now.tariff what.now }
+        requires lookup { lookup ≡ lookup_of F.files server.now.served.tariff what.now }
         ensures given_by { IfOk result
             (λ due. (offers : List Offer) → ControllerAfter offers self.old.controller
             → self.old.totals.samples ≡ samples_of (station_of self.old.controller) offers
             → (away : Bool) × Decides offers
-            (offer_at (terms_of F.files server.now) origin what.now) self.old self.new away
-            × (given_by due ≡ given (terms_of F.files server.now) away what.now)) }
+            (offer_at F.files server.now.served origin what.now) self.old self.new away
+            × (given_by due ≡ given F.files server.now.served away what.now)) }
         ensures due { IfOk result (λ due. is_due F.files due ≡ true) }
         ensures can { IfOk result
             (λ due. (only_head (answers_head what.now) (given_by due) && has_location (given_by due)) ≡ true) }
@@ -132,37 +132,37 @@ impl Desk {
 }
 
 /// Decides on the next message, and counts it.
-pub(crate) fn settle<F: Tree>(
+pub(crate) fn decide_next<F: Tree>(
     server: &Server<'_, F>,
     origin: Origin,
     what: &Meaning,
     lookup: Lookup,
-    desk: &mut Desk,
+    decider: &mut Decider,
 ) -> Result<PendingReply<F>, AllocError>
-    requires start { desk.old.start ≤ max_start }
+    requires start { decider.old.start ≤ max_start }
     requires tick { origin.tick ≤ max_tick }
     requires tier { origin.tier < 4 }
-    requires few { desk.old.totals.answered < MAX_MESSAGES }
+    requires few { decider.old.totals.answered < MAX_MESSAGES }
     requires stands { (arrivals : List Arrival)
-        × Counted (terms_of F.files server.now) arrivals desk.old
-        × IsOnTime server.now.speed origin.tick desk.old.controller.clock }
-    requires lookup { lookup ≡ lookup_of F.files server.now.tariff what.now }
+        × Counted F.files server.now.served arrivals decider.old
+        × IsOnTime server.now.served.speed origin.tick decider.old.controller.clock }
+    requires lookup { lookup ≡ lookup_of F.files server.now.served.tariff what.now }
     ensures stands { OnOk result
-        (DecidesNext (terms_of F.files server.now) origin what.now desk.old desk.new) }
+        (DecidesNext F.files server.now.served origin what.now decider.old decider.new) }
     ensures slip { IfOk result (λ t. (arrivals : List Arrival) (a : Arrival)
-        → Counted (terms_of F.files server.now) arrivals desk.old → a.origin ≡ origin → a.message.what ≡ what.now
-        → slip_of_pending t ≡ slip_of (terms_of F.files server.now) desk.old.start
-        (handled_next (terms_of F.files server.now) arrivals a)) }
+        → Counted F.files server.now.served arrivals decider.old → a.origin ≡ origin → a.message.what ≡ what.now
+        → slip_of_pending t ≡ slip_of F.files server.now.served decider.old.start
+        (handled_next F.files server.now.served arrivals a)) }
     ensures ready { IfOk result (λ t. is_back F.files (Waits t) ≡ true) }
-    ensures start { OnOk result (desk.new.start ≡ desk.old.start) }
-    ensures number { OnOk result (desk.new.totals.answered ≡ desk.old.totals.answered + 1) }
+    ensures start { OnOk result (decider.new.start ≡ decider.old.start) }
+    ensures number { OnOk result (decider.new.totals.answered ≡ decider.old.totals.answered + 1) }
 {
-    let number = desk.totals.answered;
-    let date = desk.start + server.tick(origin) / 1_000_000;
+    let number = decider.totals.answered;
+    let date = decider.start + server.tick(origin) / 1_000_000;
     let head = answers_head(what);
     let link = persistence_of(what);
-    let due = desk.decide(server, origin, what, lookup)?;
-    desk.totals.note(&due, what);
+    let due = decider.decide(server, origin, what, lookup)?;
+    decider.totals.note(&due, what);
     Ok(PendingReply {
         number,
         conn: usize::from(origin.conn),
@@ -177,30 +177,30 @@ pub(crate) fn settle<F: Tree>(
 pub(crate) fn decide_all<F: Tree>(
     server: &Server<'_, F>,
     lookups: Vec<LookedUp>,
-    desk: &mut Desk,
+    decider: &mut Decider,
 ) -> Result<Vec<PendingReply<F>>, AllocError>
-    requires start { desk.old.start ≤ max_start }
+    requires start { decider.old.start ≤ max_start }
     requires arrived { (arrivals : List Arrival) × (more : List Arrival)
-        × DeskAfter (terms_of F.files server.now) arrivals desk.old
-        × AreLookedUp F.files server.now.tariff more lookups.items × InTime arrivals more
+        × DeciderAfter F.files server.now.served arrivals decider.old
+        × AreLookedUp F.files server.now.served.tariff more lookups.items × InTime arrivals more
         × (length arrivals + length more ≤ MAX_MESSAGES) }
     ensures stands { OnOk result ((arrivals more : List Arrival)
-        → DeskAfter (terms_of F.files server.now) arrivals desk.old
-        → AreLookedUp F.files server.now.tariff more lookups.items
-        → DeskAfter (terms_of F.files server.now) (arrivals ++ more) desk.new) }
+        → DeciderAfter F.files server.now.served arrivals decider.old
+        → AreLookedUp F.files server.now.served.tariff more lookups.items
+        → DeciderAfter F.files server.now.served (arrivals ++ more) decider.new) }
     ensures slips { IfOk result (λ v. (arrivals more : List Arrival)
-        → DeskAfter (terms_of F.files server.now) arrivals desk.old
-        → AreLookedUp F.files server.now.tariff more lookups.items
+        → DeciderAfter F.files server.now.served arrivals decider.old
+        → AreLookedUp F.files server.now.served.tariff more lookups.items
         → map slip_of_pending v.items
-        ≡ map (slip_of (terms_of F.files server.now) desk.old.start)
-        (handled_after (terms_of F.files server.now) arrivals more)) }
+        ≡ map (slip_of F.files server.now.served decider.old.start)
+        (handled_after F.files server.now.served arrivals more)) }
     ensures ready { IfOk result (λ v. list_all (λ t. is_back F.files (Waits t)) v.items ≡ true) }
-    ensures start { OnOk result (desk.new.start ≡ desk.old.start) }
+    ensures start { OnOk result (decider.new.start ≡ decider.old.start) }
 {
     let mut pending_replies = Vec::with_capacity(server.alloc, lookups.len())?;
     for looked_up in lookups {
         let LookedUp { message, lookup } = looked_up;
-        let pending = settle(server, message.origin, &message.what, lookup, desk)?;
+        let pending = decide_next(server, message.origin, &message.what, lookup, decider)?;
         pending_replies.push(pending)?;
     }
     Ok(pending_replies)

@@ -2,34 +2,34 @@ use Rattle.std.proofs.Common.{ap, rules}
 use Rattle.arrivals.specs.declared.incoming.Incoming.{Incoming}
 use Rattle.arrivals.proofs.Laid.{none_left}
 use Rattle.replay.proofs.PendingReplies.{settled_none, next_is, settled_more, settled_last}
-use Rattle.replay.proofs.desk.decide_all.Goals as goal
+use Rattle.replay.proofs.decider.decide_all.Goals as goal
 
 pub loop-looked_up-init : goal.loop-looked_up-init
 loop-looked_up-init g c = settled_none _ _ _ _ _ _ _ _ c.in_ok-pending_replies.ensures.items c.in_ok-pending_replies.ensures.len (search rules)
 
-pub settle-requires-clause-tick : goal.settle-requires-clause-tick
-settle-requires-clause-tick g c =
+pub decide_next-requires-clause-tick : goal.decide_next-requires-clause-tick
+decide_next-requires-clause-tick g c =
     let given = c.requires.arrived in
     (next_is _ _ _ _ _ _ _ _ _ _ given.0 given.1 c.in-Some.looked_up c.loop-looked_up.invariant c.in-Some.ensures.steps.0 given.2 given.3 given.4 given.5).0.tick
 
-pub settle-requires-clause-tier : goal.settle-requires-clause-tier
-settle-requires-clause-tier g c =
+pub decide_next-requires-clause-tier : goal.decide_next-requires-clause-tier
+decide_next-requires-clause-tier g c =
     let given = c.requires.arrived in
     (next_is _ _ _ _ _ _ _ _ _ _ given.0 given.1 c.in-Some.looked_up c.loop-looked_up.invariant c.in-Some.ensures.steps.0 given.2 given.3 given.4 given.5).0.tier
 
-pub settle-requires-clause-few : goal.settle-requires-clause-few
-settle-requires-clause-few g c =
+pub decide_next-requires-clause-few : goal.decide_next-requires-clause-few
+decide_next-requires-clause-few g c =
     let given = c.requires.arrived in
     (next_is _ _ _ _ _ _ _ _ _ _ given.0 given.1 c.in-Some.looked_up c.loop-looked_up.invariant c.in-Some.ensures.steps.0 given.2 given.3 given.4 given.5).0.few
 
-pub settle-requires-clause-stands : goal.settle-requires-clause-stands
-settle-requires-clause-stands g c =
+pub decide_next-requires-clause-stands : goal.decide_next-requires-clause-stands
+decide_next-requires-clause-stands g c =
     let given = c.requires.arrived in
     let next = (next_is _ _ _ _ _ _ _ _ _ _ given.0 given.1 c.in-Some.looked_up c.loop-looked_up.invariant c.in-Some.ensures.steps.0 given.2 given.3 given.4 given.5).0 in
     (next.arrivals, next.stands.counted, next.stands.clock c.in-Some.looked_up.message.origin.tick next.by)
 
-pub settle-requires-clause-lookup : goal.settle-requires-clause-lookup
-settle-requires-clause-lookup g c =
+pub decide_next-requires-clause-lookup : goal.decide_next-requires-clause-lookup
+decide_next-requires-clause-lookup g c =
     let given = c.requires.arrived in
     (next_is _ _ _ _ _ _ _ _ _ _ given.0 given.1 c.in-Some.looked_up c.loop-looked_up.invariant c.in-Some.ensures.steps.0 given.2 given.3 given.4 given.5).2
 

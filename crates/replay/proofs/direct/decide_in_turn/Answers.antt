@@ -4,29 +4,29 @@ use Rattle.arrivals.proofs.Laid.{none_left}
 use Rattle.replay.specs.Fronts.{front_value}
 use Rattle.replay.proofs.PendingReplies.{settled_none}
 use Rattle.replay.proofs.OneByOne.{next_of, settled_next, settled_whole, all_looked_up}
-use Rattle.replay.proofs.direct.settle_all.Goals as goal
+use Rattle.replay.proofs.direct.decide_in_turn.Goals as goal
 
 pub loop-message-init : goal.loop-message-init
 loop-message-init g c =
-    settled_none _ _ _ _ _ _ _ _ c.in_ok-pending_replies.ensures.items c.in_ok-pending_replies.ensures.len (ap (map (front_value g.F.Tree.files c.args.server.now.tariff)) (search rules))
+    settled_none _ _ _ _ _ _ _ _ c.in_ok-pending_replies.ensures.items c.in_ok-pending_replies.ensures.len (ap (map (front_value g.F.Tree.files c.args.server.now.served.tariff)) (search rules))
 
-pub settle-requires-clause-tick : goal.settle-requires-clause-tick
-settle-requires-clause-tick g c =
+pub decide_next-requires-clause-tick : goal.decide_next-requires-clause-tick
+decide_next-requires-clause-tick g c =
     let given = c.requires.next in
     (next_of _ _ _ _ _ _ _ _ _ _ given.0 given.1 c.in-Some.message c.loop-message.invariant c.in-Some.ensures.steps.0 given.2 given.3).tick
 
-pub settle-requires-clause-tier : goal.settle-requires-clause-tier
-settle-requires-clause-tier g c =
+pub decide_next-requires-clause-tier : goal.decide_next-requires-clause-tier
+decide_next-requires-clause-tier g c =
     let given = c.requires.next in
     (next_of _ _ _ _ _ _ _ _ _ _ given.0 given.1 c.in-Some.message c.loop-message.invariant c.in-Some.ensures.steps.0 given.2 given.3).tier
 
-pub settle-requires-clause-few : goal.settle-requires-clause-few
-settle-requires-clause-few g c =
+pub decide_next-requires-clause-few : goal.decide_next-requires-clause-few
+decide_next-requires-clause-few g c =
     let given = c.requires.next in
     (next_of _ _ _ _ _ _ _ _ _ _ given.0 given.1 c.in-Some.message c.loop-message.invariant c.in-Some.ensures.steps.0 given.2 given.3).few
 
-pub settle-requires-clause-stands : goal.settle-requires-clause-stands
-settle-requires-clause-stands g c =
+pub decide_next-requires-clause-stands : goal.decide_next-requires-clause-stands
+decide_next-requires-clause-stands g c =
     let given = c.requires.next in
     let next = next_of _ _ _ _ _ _ _ _ _ _ given.0 given.1 c.in-Some.message c.loop-message.invariant c.in-Some.ensures.steps.0 given.2 given.3 in
     (next.arrivals, next.stands.counted, next.stands.clock c.in-Some.message.origin.tick next.by)
@@ -47,8 +47,8 @@ loop-message-preserved-in_ok-push g c =
 
 pub returns-clause-stands : goal.returns-clause-stands
 returns-clause-stands g c = λ arrivals more up.
-    rw (settled_whole _ _ _ _ _ _ _ _ _ arrivals more c.loop-message.invariant (none_left c.loop-message.message-iterator c.in-None.ensures.steps.0) up) at (c.loop-message.invariant.stands arrivals more up.stands (all_looked_up _ _ c.args.server.now.tariff arrivals more _ _ up))
+    rw (settled_whole _ _ _ _ _ _ _ _ _ arrivals more c.loop-message.invariant (none_left c.loop-message.message-iterator c.in-None.ensures.steps.0) up) at (c.loop-message.invariant.stands arrivals more up.stands (all_looked_up _ _ c.args.server.now.served.tariff arrivals more _ _ up))
 
 pub returns-clause-slips : goal.returns-clause-slips
 returns-clause-slips g c = λ arrivals more up.
-    rw (settled_whole _ _ _ _ _ _ _ _ _ arrivals more c.loop-message.invariant (none_left c.loop-message.message-iterator c.in-None.ensures.steps.0) up) at (c.loop-message.invariant.slips arrivals more up.stands (all_looked_up _ _ c.args.server.now.tariff arrivals more _ _ up))
+    rw (settled_whole _ _ _ _ _ _ _ _ _ arrivals more c.loop-message.invariant (none_left c.loop-message.message-iterator c.in-None.ensures.steps.0) up) at (c.loop-message.invariant.slips arrivals more up.stands (all_looked_up _ _ c.args.server.now.served.tariff arrivals more _ _ up))
