@@ -159,6 +159,8 @@ def measure_day(program, counts, folder):
 def main():
     if len(sys.argv) < 2 or len(sys.argv) > 3 and sys.argv[2] != "day":
         sys.exit(__doc__)
+    if not os.access(sys.argv[1], os.X_OK):
+        sys.exit("%s: no program %s\n\n%s" % (sys.argv[0], sys.argv[1], __doc__))
     program = os.path.abspath(sys.argv[1])
     if sys.argv[2:3] == ["day"]:
         counts = [round(float(word) * 1000) * 1000 for word in sys.argv[3:] or MILLIONS]

@@ -249,6 +249,8 @@ def measure(program, runs, title, count, make, folder):
 def main():
     if len(sys.argv) not in (2, 3):
         sys.exit(__doc__)
+    if not os.access(sys.argv[1], os.X_OK):
+        sys.exit("%s: no program %s\n\n%s" % (sys.argv[0], sys.argv[1], __doc__))
     program = os.path.abspath(sys.argv[1])
     runs = int(sys.argv[2]) if len(sys.argv) == 3 else 3
     with tempfile.TemporaryDirectory() as folder:
