@@ -19,7 +19,7 @@ from lib.usage import parser_of
 SPAN = re.compile(r"`([^`\n]+)`")
 NAME = re.compile(r"(?:\w+(?:::|\.))*\w+(?:\(\))?")
 FILE = re.compile(r"[\w.*/-]+\.(?:rt|antt|py|md|toml|txt|edit|sh|c)|"
-                  r"(?:crates|checks|docs|tests|tools|bench|examples|packaging)/[\w./*-]*")
+                  r"(?:crates|checks|docs|tests|tools|bench|benches|examples|packaging)/[\w./*-]*")
 INSIDE = re.compile(r"_|[a-z0-9][A-Z]")
 # Names of the standard library, of crates of the toolchain, of other programs, and words that stand for many.
 OTHERS = set("""
