@@ -177,6 +177,11 @@ ODD_DOCUMENTS = ["x = 1\n", "[tier9]\n", "policy = 1\n", "[[policy]]\ndepth = 1\
                  '[[route]]\nprefix = "/"\ncost = 1\ndelay = 1_000_000_001\n',
                  '[[route]]\nprefix = "/"\ncost = 1\nrate = 1\n', 'route = [{prefix = "/", cost = 1}, 2]\n',
                  'route = [[{prefix = "/", cost = 1}]]\n', '[[route]]\nprefix = "/"\ncost = 1\n' * 64,
+                 "pool = 1\n", "pool = []\n", "[[pool]]\n", "[[pool]]\nname = 1\nservers = 1\n",
+                 '[[pool]]\nname = "a"\n', '[[pool]]\nname = "a"\nservers = 0\n', '[[pool]]\nname = "a"\nservers = 1\n',
+                 '[[pool]]\nname = "a"\nservers = 1025\n', '[[pool]]\nname = "a"\nservers = 1\n' * 2,
+                 '[[pool]]\nname = "a"\nservers = 1\n' * 17, '[[route]]\nprefix = "/"\ncost = 1\npool = "a"\n',
+                 '[[route]]\nprefix = "/"\ncost = 1\npool = 1\n',
                  '[[route]]\nprefix = "/"\ncost = 1\n' * 65, '[[route]]\nprefix = "/"\ncost = 0\n' * 65]
 
 
@@ -549,6 +554,19 @@ def random_route(chance):
     return chance.sample(lines, len(lines))
 
 
+def random_pools(chance, routes):
+    """The lines of pools, each of which a route names that gets a line for it; seldom none does."""
+    names = chance.sample(("a", "b", "", "\u00e9"), min(chance.choice((0, 0, 1, 2, 3)), len(routes)))
+    for place, lines in enumerate(routes):
+        if place < len(names) and chance.random() < 0.98:
+            lines.append('pool = "%s"' % names[place])
+        elif names and chance.random() < 0.5:
+            lines.append('pool = "%s"' % chance.choice(names))
+    servers = [chance.choice((1, 1, 1, 2, 3, 1024)) for _ in names]
+    return [chance.sample(['name = "%s"' % name, "servers = %s" % value_text(chance, count)], 2)
+            for name, count in zip(names, servers)]
+
+
 def random_values(chance):
     """A value for each key, in its range, small enough that much happens."""
     policy = {
@@ -618,10 +636,11 @@ def document_text(chance, tables):
         else:
             front += "%s = { %s }\n" % (table, ", ".join(lines))
     routes = [random_route(chance) for _ in range(chance.choice((0, 0, 0, 1, 2, 3, 8)))]
-    if chance.random() < 0.8:
-        back += "".join("[[route]]\n%s\n" % "\n".join(lines) for lines in routes)
-    elif routes:
-        front += "route = [%s]\n" % ", ".join("{ %s }" % ", ".join(lines) for lines in routes)
+    for name, items in (("route", routes), ("pool", random_pools(chance, routes))):
+        if chance.random() < 0.8:
+            back += "".join("[[%s]]\n%s\n" % (name, "\n".join(lines)) for lines in items)
+        elif items:
+            front += "%s = [%s]\n" % (name, ", ".join("{ %s }" % ", ".join(lines) for lines in items))
     return front + back
 
 

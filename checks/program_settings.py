@@ -37,6 +37,8 @@ READ_BACK = ["[%s]\n%s" % (table, limits(table, end)) for table in reference.SET
     '[[route]]\nprefix = "/"\ncost = 1000000000\nkib = 1000000\ndelay = 1000000000\n',
     'route = [{prefix = "/a \\"b\\"\\\\\\u0001\\u007f/\u00e9", cost = 1}]\n',
     '[[route]]\nprefix = "/a"\ncost = 1\n' * 64,
+    "".join("[[pool]]\nname = '%d'\nservers = %d\n" % (n, 64 * n) for n in range(1, 17))
+    + "".join("[[route]]\nprefix = '/%d'\ncost = 1\npool = '%d'\n" % (n, n) for n in range(1, 17)),
 ]
 
 # A row of the page's table: the key, its default, its range.
@@ -64,6 +66,10 @@ BACK_WORDS = (
     "how many work at it; floor.back_capacities is to be a list of integers: requests, 1 to 4096 for each stage: how "
     "many its queue holds; and the three of one length"
 )
+POOL_WORDS = "pool is to be a list of tables: at most 16 of them, each below a line [[pool]]"
+NAME_WORDS = (
+    "pool.name is to be a text: what routes name it by, unlike any other; each pool is named by a route"
+)
 ROUTE_WORDS = "route is to be a list of tables: at most 64 of them, each below a line [[route]]"
 PREFIX_WORDS = (
     "route.prefix is to be a text: a decoded path from its first slash on: what is at it and below it is on the route"
@@ -85,6 +91,9 @@ FAULTS = [
     ("[tier1]\nrate_max = 1000000001\n", told("Range tier1.rate_max", RATE_MAX_WORDS)),
     ("[floor]\nback_workers = [2]\n", told("Range floor.back", BACK_WORDS)),
     ("costs = 1\n", told("Shape costs", "costs is to be a table")),
+    ("[[pool]]\nname = 'a'\nservers = 1\n" * 17, told("Range pool", POOL_WORDS)),
+    ("[[pool]]\nname = 'a'\nservers = 1\n" * 2, told("Range pool.name", NAME_WORDS)),
+    ("[[pool]]\nname = 'a'\nservers = 1\n", told("Range pool.name", NAME_WORDS)),
     ("route = 1\n", told("Shape route", ROUTE_WORDS)),
     ('[[route]]\nprefix = "/a"\ncost = 1\n' * 65, told("Range route", ROUTE_WORDS)),
     ('[[route]]\nprefix = "a"\ncost = 1\n', told("Range route.prefix", PREFIX_WORDS)),
@@ -163,7 +172,8 @@ def is_read_back(program, document):
         if got[table] != {**otherwise, **given.get(table, {})}:
             return False
     routes = [{"kib": 0, "delay": got["costs"]["delay"], **route} for route in given.get("route", [])]
-    return got.pop("route", []) == routes and list(got) == list(defaults)
+    pools = got.pop("pool", []) == given.get("pool", [])
+    return pools and got.pop("route", []) == routes and list(got) == list(defaults)
 
 
 def main():

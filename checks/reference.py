@@ -44,6 +44,7 @@ FIELDS_LIMIT = 64
 BODY_LIMIT = 65_536
 SETTINGS_LIMIT = 65_536
 ROUTES_LIMIT = 64
+POOLS_LIMIT = 16
 TICKS_IN_SECOND = 10**6
 UNITS_IN_TOKEN = 10**9
 
@@ -56,7 +57,7 @@ TWO = Format(b"haboob-capture 2 ", "2", 65_535, True, False, TEXT_LIMIT, 1_048_5
 TRAFFIC = Format(b"haboob-traffic 1 ", "traffic", 65_535, True, True, 1_125_899_906_842_624, 536_870_912)
 FORMATS = [ONE, TWO, TRAFFIC]
 
-HEADING = "number,connection,tick,tier,status,decision,service,credit,rate,start,finish,waited,method,target"
+HEADING = "number,connection,tick,tier,status,decision,service,credit,rate,start,finish,waited,%smethod,target"
 
 REASONS = {
     200: b"OK",
@@ -137,12 +138,19 @@ SETTINGS = {
     ],
 }
 
+# Each key of a pool with what is said of it, and its least and greatest value where it is an integer.
+POOL = [
+    ("name", "what routes name it by, unlike any other; each pool is named by a route"),
+    ("servers", "servers, 1 to 1024: how many work side by side on the requests of its routes alone", 1, 1024),
+]
+
 # Each key of a route with what is said of it, and its least and greatest value where it is an integer.
 ROUTE = [
     ("prefix", "a decoded path from its first slash on: what is at it and below it is on the route"),
     ("cost", "microseconds, 1 to 1000000000: how long the server works on a request, whatever its answer", 1, 10**9),
     ("kib", "microseconds, 0 to 1000000: how long it works besides on each 1024 bytes that are given", 0, 10**6),
     ("delay", "microseconds, 0 to 1000000000: how long each response takes beside the server's work", 0, 10**9),
+    ("pool", "the name of a pool: its servers work on these requests, and those of costs on all others"),
 ]
 
 # The table of each tier's policy; those after the first take what they leave out from it.
@@ -198,8 +206,10 @@ Recording = collections.namedtuple("Recording", "format start records fault")
 Bad = collections.namedtuple("Bad", "kind")
 Request = collections.namedtuple("Request", "method target minor link modified_since length")
 Control = collections.namedtuple("Control", "instant percentile smoothed rate")
-# A route: the text of its prefix and its segments, and its numbers by their keys.
-Route = collections.namedtuple("Route", "text segments cost kib delay")
+# A pool: its name, and how many servers it has.
+Pool = collections.namedtuple("Pool", "name servers")
+# A route: the text of its prefix and its segments, its numbers by their keys, and the number of its pool.
+Route = collections.namedtuple("Route", "text segments cost kib delay pool")
 
 
 class Text:
@@ -668,15 +678,15 @@ def route_of(routes, target):
 
 
 def charge(settings, request, status, what):
-    """The service time of a request in ticks, and what its response takes besides (docs/RULES.md, Service times and
-    admission)."""
+    """The service time of a request in ticks, what its response takes besides, and its pool (docs/RULES.md, Service
+    times and admission)."""
     length = len(what.body) if status == 200 and request.method != b"HEAD" else 0
     route = route_of(settings["route"], request.target)
     if route:
-        return route.cost + -(-length * route.kib // 1024), route.delay
+        return route.cost + -(-length * route.kib // 1024), route.delay, route.pool
     if status not in (200, 304):
-        return settings["costs.error"], settings["costs.delay"]
-    return settings["costs.file"] + -(-length * settings["costs.kib"] // 1024), settings["costs.delay"]
+        return settings["costs.error"], settings["costs.delay"], 0
+    return settings["costs.file"] + -(-length * settings["costs.kib"] // 1024), settings["costs.delay"], 0
 
 
 def ranked(samples, percent):
@@ -751,29 +761,30 @@ class Tier:
 
 
 class Admission:
-    """Who is turned away, and the servers of all tiers (docs/RULES.md, Service times and admission)."""
+    """Who is turned away, and the servers of each pool (docs/RULES.md, Service times and admission)."""
 
     def __init__(self, settings):
         self.tiers = [Tier(settings, table) for table in POLICY_TABLES]
         self.tick = 0
         self.finish = 0
-        self.free = [0] * settings["costs.servers"]
+        servers = [settings["costs.servers"]] + [pool.servers for pool in settings["pool"]]
+        self.free = [[0] * count for count in servers]
         self.samples = []
 
-    def offer(self, tier, tick, service_time, delay):
+    def offer(self, tier, tick, service_time, delay, pool):
         """Whether a request is admitted."""
         self.tick = tick
         if not self.tiers[tier].takes(tick):
             return False
-        self.finish = max(tick, self.free_at()) + service_time
-        heapq.heapreplace(self.free, self.finish)
+        self.finish = max(tick, self.free_at(pool)) + service_time
+        heapq.heapreplace(self.free[pool], self.finish)
         self.samples.append(self.finish - tick + delay)
         self.tiers[tier].serve(self.finish + delay, self.samples[-1])
         return True
 
-    def free_at(self):
-        """The tick at which the first of the servers is free."""
-        return self.free[0]
+    def free_at(self, pool):
+        """The tick at which the first of a pool's servers is free."""
+        return self.free[pool][0]
 
     def shown_controls(self, tier):
         """The controls of a tier up to the last offered tick of any (docs/DECISIONS.md, Controls)."""
@@ -837,22 +848,24 @@ def escaped(data):
 
 
 def rows(files, settings, arrived, admission):
-    """Status and row of each message, in the order of their numbers: what it found, and what became of it."""
+    """Status and row of each message, in the order of their numbers: what it found, and what became of it. A column
+    says the pool where there are several."""
+    several = bool(settings["pool"])
     folders = {folder for name in files for folder in folders_of(name)}
     for number, (piece, message) in enumerate(arrived):
         if isinstance(message, Bad):
-            status, fields = FAULTS[message.kind], ["bypassed"] + [""] * 8
+            status, fields = FAULTS[message.kind], ["bypassed"] + [""] * (9 if several else 8)
         else:
             status, what = answer_of(files, folders, message)
-            cost, delay = charge(settings, message, status, what)
+            cost, delay, pool = charge(settings, message, status, what)
             tier = admission.tiers[piece.tier]
             found = [cost, tier.credit_at(piece.tick), tier.rate_at(piece.tick)]
-            waited = max(0, admission.free_at() - piece.tick)
-            if admission.offer(piece.tier, piece.tick, cost, delay):
+            waited = [max(0, admission.free_at(pool) - piece.tick)] + [pool] * several
+            if admission.offer(piece.tier, piece.tick, cost, delay, pool):
                 fields = ["admitted"] + found + [admission.finish - cost, admission.finish]
             else:
                 status, fields = 503, ["rejected"] + found + ["", ""]
-            fields += [waited, escaped(message.method), escaped(message.target)]
+            fields += waited + [escaped(message.method), escaped(message.target)]
         yield status, ",".join(map(str, [number, piece.conn, piece.tick, piece.tier, status] + fields))
 
 
@@ -897,7 +910,7 @@ def read_document(data):
         raise Refused("Text") from None
     found = list(values_in(document))
     refuse_unless(all(-(2**63) <= value < 2**63 for _, value in found if type(value) is int), "Text")
-    tables = SETTINGS | {"route": ROUTE}
+    tables = SETTINGS | {"pool": POOL, "route": ROUTE}
     known = {(), *((table,) for table in tables), *((table, key[0]) for table in tables for key in tables[table])}
     refuse_unless(all(path in known for path, _ in found), "Unknown")
     return document
@@ -941,7 +954,33 @@ def prefix_segments(text):
     return None if first or {b"", b".", b".."} & set(segments) else segments
 
 
-def read_route(table, delay):
+def read_pools(document):
+    """The pools of a document, in their order (docs/FORMATS.md, Settings)."""
+    tables, pools = document.get("pool", []), []
+    refuse_unless(isinstance(tables, list), "Shape pool")
+    refuse_unless(len(tables) <= POOLS_LIMIT, "Range pool")
+    for table in tables:
+        refuse_unless(isinstance(table, dict), "Shape pool")
+        name, servers = table.get("name"), table.get("servers")
+        refuse_unless(isinstance(name, str), "Shape pool.name")
+        refuse_unless(name not in [pool.name for pool in pools], "Range pool.name")
+        refuse_unless(type(servers) is int, "Shape pool.servers")
+        refuse_unless(POOL[1][2] <= servers <= POOL[1][3], "Range pool.servers")
+        pools.append(Pool(name, servers))
+    return pools
+
+
+def read_pool(table, pools):
+    """The number of the pool that a route names; 0 of one that names none (docs/FORMATS.md, Settings)."""
+    name, names = table.get("pool"), [pool.name for pool in pools]
+    if name is None:
+        return 0
+    refuse_unless(isinstance(name, str), "Shape route.pool")
+    refuse_unless(name in names, "Range route.pool")
+    return names.index(name) + 1
+
+
+def read_route(table, delay, pools):
     """The route of a table, whose delay is this where it gives none (docs/FORMATS.md, Settings)."""
     refuse_unless(isinstance(table, dict), "Shape route")
     text = table.get("prefix")
@@ -949,18 +988,20 @@ def read_route(table, delay):
     segments = prefix_segments(text)
     refuse_unless(segments is not None, "Range route.prefix")
     values = {"kib": 0, "delay": delay} | table
-    for key, _, *bounds in ROUTE[1:]:
+    for key, _, *bounds in ROUTE[1:4]:
         refuse_unless(type(values.get(key)) is int, "Shape route." + key)
         refuse_unless(bounds[0] <= values[key] <= bounds[1], "Range route." + key)
-    return Route(text, segments, values["cost"], values["kib"], values["delay"])
+    return Route(text, segments, values["cost"], values["kib"], values["delay"], read_pool(table, pools))
 
 
-def read_routes(document, delay):
-    """The routes of a document, in their order (docs/FORMATS.md, Settings)."""
+def read_routes(document, delay, pools):
+    """The routes of a document, in their order; each pool is named by one (docs/FORMATS.md, Settings)."""
     tables = document.get("route", [])
     refuse_unless(isinstance(tables, list), "Shape route")
     refuse_unless(len(tables) <= ROUTES_LIMIT, "Range route")
-    return [read_route(table, delay) for table in tables]
+    routes = [read_route(table, delay, pools) for table in tables]
+    refuse_unless({route.pool for route in routes} >= set(range(1, len(pools) + 1)), "Range pool.name")
+    return routes
 
 
 def read_settings(data):
@@ -974,7 +1015,8 @@ def read_settings(data):
         for table in POLICY_TABLES:
             least, rate, most = (settings[table + "." + key] for key in ("rate_min", "rate", "rate_max"))
             refuse_unless(least <= rate <= most, "Range %s.rate" % table)
-        settings["route"] = read_routes(document, settings["costs.delay"])
+        settings["pool"] = read_pools(document)
+        settings["route"] = read_routes(document, settings["costs.delay"], settings["pool"])
     except Refused as kind:
         raise Fault(3, "settings: %s" % kind) from None
     return settings
@@ -984,6 +1026,12 @@ def quoted(text):
     """A text between quotes (TOML 1.0, basic strings)."""
     signs = {'"': '\\"', "\\": "\\\\"} | {chr(code): "\\u%04x" % code for code in [*range(32), 127]}
     return '"%s"' % "".join(signs.get(sign, sign) for sign in text)
+
+
+def written(keys, values):
+    """Lines of keys with these values, each below its comment; the last keys may have none."""
+    pairs = zip(keys, values)
+    return [line for (key, comment, *_), value in pairs for line in ("# " + comment, "%s = %s" % (key, value))]
 
 
 def settings_text(data):
@@ -997,10 +1045,11 @@ def settings_text(data):
         lines += ["", "[%s]" % table]
         for key, comment, *_ in SETTINGS[table]:
             lines += ["# " + comment, "%s = %s" % (key, settings[table + "." + key])]
+    for pool in settings["pool"]:
+        lines += ["", "[[pool]]"] + written(POOL, (quoted(pool.name), pool.servers))
     for route in settings["route"]:
-        lines += ["", "[[route]]"]
-        for (key, comment, *_), value in zip(ROUTE, (quoted(route.text), route.cost, route.kib, route.delay)):
-            lines += ["# " + comment, "%s = %s" % (key, value)]
+        names = [quoted(settings["pool"][route.pool - 1].name)] if route.pool else []
+        lines += ["", "[[route]]"] + written(ROUTE, (quoted(route.text), route.cost, route.kib, route.delay, *names))
     return 0, b"", "".join(line + "\n" for line in lines).encode()
 
 
@@ -1021,7 +1070,7 @@ def tell_replies(files, settings, start, arrived, admission, fault):
 def tell_rows(files, settings, start, arrived, admission, fault):
     """The statuses of the messages, and the table of decisions."""
     told = list(rows(files, settings, arrived, admission))
-    lines = [HEADING] + [row for _, row in told]
+    lines = [HEADING % ("pool," if settings["pool"] else "")] + [row for _, row in told]
     return [status for status, _ in told], "".join(line + "\n" for line in lines).encode()
 
 

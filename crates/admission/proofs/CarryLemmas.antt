@@ -5,7 +5,7 @@ use Rattle.token_bucket.specs.Reference.{TOKEN, accrual}
 use Rattle.token_bucket.proofs.AccrualLemmas.{accrual-split}
 use Rattle.admission.specs.declared.policy.PolicyNumbers.{PolicyNumbers}
 use Rattle.admission.specs.declared.control.Decision.TheVariants.{Admitted, Rejected}
-use Rattle.admission.specs.Reference.{Station, rules_of, Offer, Decided, Served, of_tier, is_admitted, served, finish_after, by_completion, control_at, rate_at, least_balance, credit, decide, decided_next, decided_from, decided, tick_from}
+use Rattle.admission.specs.Reference.{Station, rules_of, Offer, Decided, Served, of_tier, is_admitted, served, finish_in, by_completion, control_at, rate_at, least_balance, credit, decide, decided_next, decided_from, decided, tick_from}
 use Rattle.admission.specs.After.{AllCovered}
 use Rattle.admission.specs.Laws.{AreOffered, AreOfOthers, FirstCredit, CreditFromCredit, AccrualSplitsAtControl, RateFromOffersBefore}
 use Rattle.admission.proofs.RequestLemmas.{decided_from-push, of_tier-same, of_tier-other, of_tier-none, served-push}
@@ -34,9 +34,9 @@ rate_chosen rules past offer finish u true some before =
     (sym (taken.rate_before rules (served past) (record { offer = offer; finish = finish }) u some (omega arith)))
 rate_chosen rules past offer finish u false some before = rw (served_rejected past offer finish) refl
 
-finish_later : (servers : ℕ) (requests : List Served) (offer : Offer) (u : ℕ) → 1 ≤ offer.service → u ≤ offer.tick
-    → u < finish_after servers requests offer
-finish_later servers requests offer u longer before = omega arith
+finish_later : (station : Station) (requests : List Served) (offer : Offer) (u : ℕ) → 1 ≤ offer.service → u ≤ offer.tick
+    → u < finish_in station requests offer
+finish_later station requests offer u longer before = omega arith
 
 -- the requests of a tier after one more offer: with that offer, or as they were
 tier_next : (station : Station) (past : List Decided) (offer : Offer) (tier : ℕ) (P : List Decided → Type 0)
@@ -54,8 +54,8 @@ chooses station past offer = nat_le TOKEN (credit (rules_of station offer.tier) 
 rate_own : (rules : PolicyNumbers) (station : Station) (past own : List Decided) (offer : Offer) (u : ℕ) → 0 < rules.every → 1 ≤ offer.service
     → u ≤ offer.tick → rate_at rules (served (own ++ decided_next station past offer ∷ [])) u ≡ rate_at rules (served own) u
 rate_own rules station past own offer u some longer before =
-    rate_chosen rules own offer (finish_after station.servers (served past) offer) u (chooses station past offer) some
-    (finish_later station.servers (served past) offer u longer before)
+    rate_chosen rules own offer (finish_in station (served past) offer) u (chooses station past offer) some
+    (finish_later station (served past) offer u longer before)
 
 rate_next : (rules : PolicyNumbers) (station : Station) (past : List Decided) (offer : Offer) (tier u : ℕ) → 0 < rules.every → 1 ≤ offer.service
     → u ≤ offer.tick
@@ -107,7 +107,7 @@ covered_own station past offer some longer covered =
     let own : List Decided = of_tier offer.tier past in
     covered-push (rate_at rules (served own)) (rate_at rules (served (own ++ decided_next station past offer ∷ []))) (rules.depth * TOKEN) offer.tick own
     (decided_next station past offer) covered refl (λ u below. sym (rate_own rules station past own offer u some longer (omega arith)))
-    (enough (credit rules own offer.tick) (finish_after station.servers (served past) offer))
+    (enough (credit rules own offer.tick) (finish_in station (served past) offer))
 
 covered_next : (station : Station) (past : List Decided) (offer : Offer) (tier : ℕ) → 0 < (rules_of station tier).every → 1 ≤ offer.service
     → Covers (rules_of station tier) offer.tick (of_tier tier past)

@@ -7,7 +7,7 @@ use Rattle.std.proofs.lemmas.List.Sums.{sum_by_push}
 use Rattle.token_bucket.specs.Reference.{TOKEN, accrual}
 use Rattle.admission.specs.declared.policy.PolicyNumbers.{PolicyNumbers}
 use Rattle.admission.specs.declared.control.Decision.TheVariants.{Admitted, Rejected}
-use Rattle.admission.specs.Reference.{Station, rules_of, Offer, Decided, Served, of_tier, served, samples, by_completion, finish_after, smoothed_at, adjusted, rate_after, rate_at, least_balance, credit, decided_next, decided_from, decided}
+use Rattle.admission.specs.Reference.{Station, rules_of, Offer, Decided, Served, of_tier, served, samples, by_completion, finish_in, smoothed_at, adjusted, rate_after, rate_at, least_balance, credit, decided_next, decided_from, decided}
 use Rattle.admission.specs.Rules.{IsInRange}
 use Rattle.admission.specs.Laws.{DecisionsBegin, FinishRuns, OtherTiersLeave, RateBefore, RatesWithin, RejectedLeavesAll, and_rejected}
 use Rattle.admission.proofs.RequestLemmas.{decided_from-push, last_finish-push, of_tier-same, of_tier-other, served-push}
@@ -98,10 +98,10 @@ rejected_leaves_all station past rejected offer tier tick = (
   served_rejected past rejected,
   served_of-rejected tier past rejected,
   credit_of-rejected (rules_of station tier) tier past rejected tick,
-  ap (λ n. if nat_le TOKEN n then (Admitted (finish_after station.servers (served (and_rejected past rejected)) offer)) else Rejected)
+  ap (λ n. if nat_le TOKEN n then (Admitted (finish_in station (served (and_rejected past rejected)) offer)) else Rejected)
       (credit_of-rejected (rules_of station offer.tier) offer.tier past rejected offer.tick)
       ∙ ap (λ (rs : List Served). if nat_le TOKEN (credit (rules_of station offer.tier) (of_tier offer.tier past) offer.tick)
-      then (Admitted (finish_after station.servers rs offer)) else Rejected) (served_rejected past rejected),
+      then (Admitted (finish_in station rs offer)) else Rejected) (served_rejected past rejected),
 )
 
 -- ---- rates

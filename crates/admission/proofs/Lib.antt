@@ -9,6 +9,7 @@ pub mod NewLemmas
 pub mod OfferLemmas
 pub mod OrderLemmas
 pub mod PassLemmas
+pub mod PoolLemmas
 pub mod RateLemmas
 pub mod RequestLemmas
 pub mod ServerLemmas

@@ -5,10 +5,12 @@ use Rattle.std.proofs.lemmas.Bool.{le-leb, lt-leb, cases_lt, cases_eq}
 use Rattle.std.proofs.lemmas.List.{map-append}
 use Rattle.std.proofs.lemmas.List.Sums.{sum_by-cons}
 use Rattle.token_bucket.specs.Reference.{TOKEN}
-use Rattle.admission.specs.Reference.{Station, rules_of, Offer, Decided, Served, of_tier, served, finishes, completion, done, insert_complete, by_completion, free_at, finish_after, credit, decided_next, decided_from, decided}
+use Rattle.admission.specs.Reference.{Station, rules_of, Offer, Decided, Served, of_tier, servers_of, served, of_pool, finishes, completion, done, insert_complete, by_completion, free_at, finish_after, finish_in, credit, decided_next, decided_from, decided}
 use Rattle.admission.specs.Servers.{HaveNoDelay, OneServerInOrder}
 use Rattle.admission.proofs.RequestLemmas.{served-push, of_tier-same, of_tier-other, of_tier-none}
-use Rattle.admission.proofs.TurnLemmas.{Next, Chosen, one_push}
+use Rattle.admission.specs.Pools.{AreOfPool}
+use Rattle.admission.proofs.PoolLemmas.{Chosen, finish_alone, all_none, all_next}
+use Rattle.admission.proofs.TurnLemmas.{Next, one_push}
 
 -- numbers that don't fall, from lo up to hi
 unfoldable RisesTo : ℕ → ℕ → List ℕ → Type 0
@@ -63,15 +65,19 @@ own_chosen tier past offer false rise =
       | inr apart ↦ rw (of_tier-other tier past request apart, all) rise
     ]
 
-own_from : (station : Station) (tier : ℕ) (past : List Decided) (offers : List Offer) → station.servers ≡ 1 → OwnRise tier past
+own_from : (station : Station) (pool tier : ℕ) (past : List Decided) (offers : List Offer) → servers_of station pool ≡ 1
+    → AreOfPool pool offers → of_pool pool (served past) ≡ served past → OwnRise tier past
     → OwnRise tier (decided_from station past offers)
-unfolding decided_from rules_of
-own_from station tier past [] one rise = rise
-own_from station tier past (offer ∷ offers) one rise =
+unfolding decided_from AreOfPool
+own_from station pool tier past [] one of all rise = rise
+own_from station pool tier past (offer ∷ offers) one of all rise =
     let chosen : Bool = nat_le TOKEN (credit (rules_of station offer.tier) (of_tier offer.tier past) offer.tick) in
+    let finish : finish_in station (served past) offer ≡ finish_after 1 (served past) offer =
+    finish_alone station pool (served past) offer of.0 all ∙ ap (λ n. finish_after n (served past) offer) one in
     let next : OwnRise tier (past ++ decided_next station past offer ∷ []) =
-    rw one (own_chosen tier past offer chosen rise) in
-    own_from station tier (past ++ decided_next station past offer ∷ []) offers one next
+    rw finish (own_chosen tier past offer chosen rise) in
+    own_from station pool tier (past ++ decided_next station past offer ∷ []) offers one of.1
+    (all_next station pool past offer of.0 all) next
 
 own_none : (tier : ℕ) → OwnRise tier []
 unfolding served RisesTo
@@ -101,7 +107,7 @@ unfolding decided_from HaveNoDelay
 delay_from station tier past [] zero_delay none = none
 delay_from station tier past (offer ∷ offers) zero_delay none =
     let chosen : Bool = nat_le TOKEN (credit (rules_of station offer.tier) (of_tier offer.tier past) offer.tick) in
-    let finish : ℕ = finish_after station.servers (served past) offer in
+    let finish : ℕ = finish_in station (served past) offer in
     let next : NoDelay (served (of_tier tier (past ++ decided_next station past offer ∷ []))) =
     elim (cases_eq offer.tier tier) [
       | inl same ↦
@@ -169,11 +175,11 @@ first_are_all u lo hi (x ∷ requests) rises =
     ]
 
 pub one_server_in_order : OneServerInOrder
-one_server_in_order station offers tier tick k one zero_delay =
+one_server_in_order station offers pool tier tick k one of zero_delay =
     let own : List Served = served (of_tier tier (decided station offers)) in
     let hi : ℕ = free_at 1 (served (decided station offers)) in
     let are : map completion own ≡ finishes own = completions_are own (delay_from station tier [] offers zero_delay (delay_none tier)) in
-    let rise : RisesTo 0 hi (finishes own) = own_from station tier [] offers one (own_none tier) in
+    let rise : RisesTo 0 hi (finishes own) = own_from station pool tier [] offers one of (all_none pool) (own_none tier) in
     let rises : RisesTo 0 hi (map completion own) = rw are rise in
     record {
       order = order_stays 0 hi own rises;

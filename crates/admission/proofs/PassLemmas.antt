@@ -75,7 +75,7 @@ few_at first ts tick i cur share moves within at =
 
 -- with the tiers at a later tick
 abbrev pub with_tiers : Standing → List TierStanding → ℕ → Standing
-with_tiers c tiers tick = record { tiers = tiers; servers = c.servers; offers = c.offers; tick = c.tick; clock = tick }
+with_tiers c tiers tick = record { tiers = tiers; pools = c.pools; offers = c.offers; tick = c.tick; clock = tick }
 
 many : (c : Standing) (tiers : List TierStanding) (tick : ℕ) → AllMove c.tiers tick tiers → length tiers ≡ length c.tiers
 many c tiers tick moves =
@@ -87,8 +87,8 @@ pub passed_sound : (c : Standing) (tiers : List TierStanding) (tick : ℕ) → I
 passed_sound c tiers tick sound later most moves = record {
   four = many c tiers tick moves ∙ sound.four;
   offers = sound.offers;
-  some = sound.some;
-  free = sound.free;
+  default = sound.default;
+  pools = sound.pools;
   clock = (omega (arith, sound.clock.0), most);
   tiers = λ i next at.
       let before = moves.each i next at in
@@ -104,7 +104,7 @@ passed_sound c tiers tick sound later most moves = record {
 station_passed : (c : Standing) (tiers : List TierStanding) (tick : ℕ) → AllMove c.tiers tick tiers
     → station_of (with_tiers c tiers tick) ≡ station_of c
 unfolding station_of
-station_passed c tiers tick moves = ap (λ (ps : List PolicyNumbers). record { policies = ps; servers = length c.servers }) moves.rules
+station_passed c tiers tick moves = ap (λ (ps : List PolicyNumbers). record { policies = ps; pools = map (λ (s : List ℕ). length s) c.pools }) moves.rules
 
 pub passed_stands : (c : Standing) (tiers : List TierStanding) (tick : ℕ) → AllMove c.tiers tick tiers
     → StandsAsBefore c (with_tiers c tiers tick)
@@ -114,7 +114,7 @@ passed_stands c tiers tick moves =
       fits = λ offers fits. record {
         offered = fits.offered;
         tick = fits.tick;
-        servers = rw kept fits.servers;
+        pools = rw kept fits.pools;
         tiers = λ i next at.
             let before = moves.each i next at in
             rw kept (before.2.fits (of_tier i (decided (station_of c) offers)) (fits.tiers i before.0 before.1));

@@ -1,10 +1,12 @@
 -- One more offer after the offers so far.
-use Rattle.std.proofs.Common.{◌≡◌, ℕ, ◌+◌, max, List, [], ◌∷◌, ◌++◌, refl, sym, ◌∙◌, arith, append_assoc, append-nil, nat_eq}
+use Rattle.std.proofs.Common.{◌≡◌, ℕ, ◌+◌, max, List, [], ◌∷◌, ◌++◌, refl, sym, ◌∙◌, ap, arith, append_assoc, append-nil, nat_eq}
 use Rattle.std.specs.Prelude.{filter, sum_by}
 use Rattle.std.proofs.lemmas.List.Sums.{sum_by_push}
 use Rattle.std.proofs.lemmas.List.Elements.{filter-append}
 use Rattle.std.proofs.lemmas.Bool.{eq-eqb, ne_eqb}
-use Rattle.admission.specs.Reference.{Station, Offer, Decided, of_tier, as_served, served, decided_next, decided_from, tick_from}
+use Rattle.admission.specs.declared.control.Decision.{Decision}
+use Rattle.admission.specs.declared.control.Decision.TheVariants.{Admitted, Rejected}
+use Rattle.admission.specs.Reference.{Station, Offer, Decided, Served, of_tier, as_served, served, of_pool, decided_next, decided_from, tick_from}
 use Rattle.admission.specs.Servers.{last_finish}
 
 -- ---- the lists
@@ -43,6 +45,34 @@ of_tier-other tier past request apart =
 pub of_tier-none : (tier : ℕ) → of_tier tier [] ≡ []
 unfolding of_tier
 of_tier-none tier = refl
+
+-- the same of pools
+pub of_pool-same : (pool : ℕ) (requests : List Served) (request : Served) → request.offer.pool ≡ pool
+    → of_pool pool (requests ++ request ∷ []) ≡ of_pool pool requests ++ request ∷ []
+unfolding of_pool
+of_pool-same pool requests request same =
+    filter-append (λ (r : Served). nat_eq r.offer.pool pool) requests (request ∷ [])
+    ∙ rw (eq-eqb request.offer.pool pool same) refl
+
+pub of_pool-other : (pool : ℕ) (requests : List Served) (request : Served) → (request.offer.pool ≡ pool → ⊥)
+    → of_pool pool (requests ++ request ∷ []) ≡ of_pool pool requests
+unfolding of_pool
+of_pool-other pool requests request apart =
+    filter-append (λ (r : Served). nat_eq r.offer.pool pool) requests (request ∷ [])
+    ∙ rw (ne_eqb request.offer.pool pool apart) (append-nil (filter (λ (r : Served). nat_eq r.offer.pool pool) requests))
+
+pub of_pool-none : (pool : ℕ) → of_pool pool (served []) ≡ []
+unfolding of_pool served
+of_pool-none pool = refl
+
+-- an offer of another pool, admitted or not
+pub of_pool-apart : (pool : ℕ) (past : List Decided) (offer : Offer) (decision : Decision) → (offer.pool ≡ pool → ⊥)
+    → of_pool pool (served (past ++ record { offer = offer; decision = decision } ∷ [])) ≡ of_pool pool (served past)
+of_pool-apart pool past offer (Admitted finish) apart =
+    ap (of_pool pool) (served-push past (record { offer = offer; decision = Admitted finish }))
+    ∙ of_pool-other pool (served past) (record { offer = offer; finish = finish }) apart
+of_pool-apart pool past offer Rejected apart =
+    ap (of_pool pool) (served-push past (record { offer = offer; decision = Rejected }) ∙ append-nil (served past))
 
 pub tick_from-push : (tick : ℕ) (offers : List Offer) (offer : Offer) → tick_from tick (offers ++ offer ∷ []) ≡ offer.tick
 unfolding tick_from

@@ -1,42 +1,42 @@
 -- The tiers beside one another: one of them takes one more offer.
-use Rattle.std.proofs.Common.{◌≡◌, ℕ, zero, suc, drop, replicate, ◌+◌, ◌<◌, ◌≤◌, max, List, [], ◌∷◌, ◌++◌, length, map, Bool, true, false, nat_le, if◌then◌else◌, refl, sym, ◌∙◌, ap, arith, append-nil, length-append, Some, slice_get, slice_set, slice_index_or, inl, inr}
+use Rattle.std.proofs.Common.{◌≡◌, ℕ, zero, suc, drop, replicate, ◌+◌, ◌*◌, ◌<◌, ◌≤◌, max, List, [], ◌∷◌, ◌++◌, length, map, refl, sym, ◌∙◌, ap, arith, append-nil, length-append, Some, slice_get, slice_set, slice_index_or, inl, inr}
 use Rattle.std.proofs.Math.Seq.{map-set_same}
 use Rattle.std.proofs.lemmas.Bool.{cases_eq}
-use Rattle.std.proofs.lemmas.List.{length-set, length-replicate, get_or-replicate}
-use Rattle.std.proofs.lemmas.Option.{get_or_from_slice_get}
-use Rattle.token_bucket.specs.Reference.{TOKEN}
+use Rattle.std.specs.Prelude.{All}
+use Rattle.std.proofs.lemmas.List.{length-map, length-set, length-replicate, get_or-replicate}
+use Rattle.std.proofs.lemmas.Option.{get_or_from_slice_get, slice_get_within}
 use Rattle.admission.specs.declared.policy.PolicyNumbers.{PolicyNumbers}
-use Rattle.admission.specs.Limits.{MAX_OFFERS, MAX_SERVICE}
+use Rattle.token_bucket.specs.Standing.{MAX_TICK}
+use Rattle.admission.specs.Limits.{MAX_OFFERS, MAX_SERVERS, MAX_SERVICE}
 use Rattle.admission.specs.declared.control.Control.{Control}
 use Rattle.admission.specs.declared.control.Decision.{Decision}
 use Rattle.admission.specs.declared.control.Outlook.{Outlook}
 use Rattle.admission.specs.declared.control.Decision.TheVariants.{Admitted, Rejected}
-use Rattle.admission.specs.Reference.{no_rules, rules_of, Offer, Decided, Served, of_tier, served, insert_sorted, free_at, controls_until, credit, decide, decided_from, decided, tick_from}
-use Rattle.admission.specs.Servers.{free_ticks}
-use Rattle.admission.specs.After.{outlook, controls_in, all_controls, TierFits, ControllerAfter}
-use Rattle.admission.specs.Standing.{TierStanding, Standing, station_of, first_free, IsShare, IsSound}
+use Rattle.admission.specs.Reference.{no_rules, rules_of, servers_of, Offer, Decided, Served, of_tier, served, of_pool, insert_sorted, free_at, controls_until, decide, decided_from, decided, tick_from}
+use Rattle.admission.specs.After.{outlook, controls_in, all_controls, TierFits, PoolFits, ControllerAfter}
+use Rattle.admission.specs.Standing.{TierStanding, Standing, station_of, first_free, ArePools, HasPool, IsShare, IsPool, IsSound}
 use Rattle.admission.specs.Running.{decision_after, finish_or, servers_after}
 use Rattle.admission.specs.TierCalls.{AreNew, IsComplete, AreComplete, Decides, Takes, Shows, Foresees, AllShare, AllShow}
-use Rattle.admission.proofs.RequestLemmas.{decided_from-push, served-push, of_tier-same, of_tier-other, of_tier-none, tick_from-push}
+use Rattle.admission.proofs.RequestLemmas.{decided_from-push, served-push, of_tier-same, of_tier-other, of_tier-none, of_pool-same, of_pool-apart, of_pool-none, tick_from-push}
 use Rattle.admission.proofs.ServerLemmas.{free_ticks-none, free_ticks-push, free_first, first-exchanged, length-exchanged}
 use Rattle.admission.proofs.SoundLemmas.{share_later, share_complete_at}
 
 -- ---- one of the tiers
 
-pub get_at : (ts : List TierStanding) (i : ℕ) (t : TierStanding) → i < length ts → t ≡ slice_index_or ts i t → slice_get ts i ≡ Some t
+pub get_at : {X : Type 0} (ts : List X) (i : ℕ) (t : X) → i < length ts → t ≡ slice_index_or ts i t → slice_get ts i ≡ Some t
 get_at [] i t within at = absurd (omega arith)
-get_at (first ∷ ts) zero t within at = ap (λ (t : TierStanding). Some t) (sym at)
+get_at {X} (first ∷ ts) zero t within at = ap (λ (t : X). Some t) (sym at)
 get_at (first ∷ ts) (suc i) t within at = get_at ts i t (omega arith) at
 
-pub same_some : (a b : TierStanding) → Some a ≡ Some b → a ≡ b
+pub same_some : {X : Type 0} (a b : X) → Some a ≡ Some b → a ≡ b
 same_some a b same = cc
 
-pub set_here : (ts : List TierStanding) (i : ℕ) (next t : TierStanding) → i < length ts → slice_get (slice_set ts i next) i ≡ Some t → t ≡ next
+pub set_here : {X : Type 0} (ts : List X) (i : ℕ) (next t : X) → i < length ts → slice_get (slice_set ts i next) i ≡ Some t → t ≡ next
 set_here [] i next t within at = absurd (omega arith)
 set_here (first ∷ ts) zero next t within at = sym (same_some next t at)
 set_here (first ∷ ts) (suc i) next t within at = set_here ts i next t (omega arith) at
 
-pub set_there : (ts : List TierStanding) (i j : ℕ) (next t : TierStanding) → (j ≡ i → ⊥) → slice_get (slice_set ts i next) j ≡ Some t
+pub set_there : {X : Type 0} (ts : List X) (i j : ℕ) (next t : X) → (j ≡ i → ⊥) → slice_get (slice_set ts i next) j ≡ Some t
     → slice_get ts j ≡ Some t
 set_there [] i j next t apart at = at
 set_there (first ∷ ts) zero zero next t apart at = absurd (apart refl)
@@ -54,69 +54,113 @@ pub rules_at : (c : Standing) (i : ℕ) (t : TierStanding) → slice_get c.tiers
 unfolding rules_of station_of
 rules_at c i t at = rules_in c.tiers i t at
 
--- the controller with one tier changed
-abbrev pub with_tier : Standing → ℕ → TierStanding → List ℕ → ℕ → Standing
-with_tier c i next servers tick = record {
+-- the controller with one tier and one pool changed
+abbrev pub with_offer : Standing → ℕ → TierStanding → ℕ → List ℕ → ℕ → Standing
+with_offer c i next p servers tick = record {
   tiers = slice_set c.tiers i next;
-  servers = servers;
+  pools = slice_set c.pools p servers;
   offers = c.offers + 1;
   tick = tick;
   clock = c.clock;
 }
 
-pub station_kept : (c : Standing) (i : ℕ) (t next : TierStanding) (servers : List ℕ) (tick : ℕ) → slice_get c.tiers i ≡ Some t
-    → next.rules ≡ t.rules → length servers ≡ length c.servers → station_of (with_tier c i next servers tick) ≡ station_of c
+pub station_kept : (c : Standing) (i : ℕ) (t next : TierStanding) (p : ℕ) (servers after : List ℕ) (tick : ℕ)
+    → slice_get c.tiers i ≡ Some t → slice_get c.pools p ≡ Some servers → next.rules ≡ t.rules → length after ≡ length servers
+    → station_of (with_offer c i next p after tick) ≡ station_of c
 unfolding station_of
-station_kept c i t next servers tick at same many =
+station_kept c i t next p servers after tick at place same many =
     let policies : map (λ (t : TierStanding). t.rules) (slice_set c.tiers i next) ≡ map (λ (t : TierStanding). t.rules) c.tiers =
     map-set_same (λ (t : TierStanding). t.rules) c.tiers i next t
     (same ∙ sym (ap (λ (t : TierStanding). t.rules) (get_or_from_slice_get c.tiers i t t at))) in
-    rw (policies, many) refl
+    let pools : map (λ (s : List ℕ). length s) (slice_set c.pools p after) ≡ map (λ (s : List ℕ). length s) c.pools =
+    map-set_same (λ (s : List ℕ). length s) c.pools p after servers
+    (many ∙ sym (ap (λ (s : List ℕ). length s) (get_or_from_slice_get c.pools p servers servers place))) in
+    rw (policies, pools) refl
 
--- the number of its servers
-many_servers : (c : Standing) → (station_of c).servers ≡ length c.servers
+-- how many servers a pool has
+lengths_in : (pools : List (List ℕ)) (p : ℕ) (servers : List ℕ) → slice_get pools p ≡ Some servers
+    → slice_index_or (map (λ (s : List ℕ). length s) pools) p 0 ≡ length servers
+lengths_in [] p servers place = absurd (cc)
+lengths_in (first ∷ pools) zero servers place = ap (λ (s : List ℕ). length s) (same_some first servers place)
+lengths_in (first ∷ pools) (suc p) servers place = lengths_in pools p servers place
+
+servers_at : (c : Standing) (p : ℕ) (servers : List ℕ) → slice_get c.pools p ≡ Some servers
+    → servers_of (station_of c) p ≡ length servers
+unfolding servers_of station_of
+servers_at c p servers place = lengths_in c.pools p servers place
+
+-- a pool of the station is one of the controller's
+pub pool_within : (c : Standing) (p own : ℕ) → HasPool c p → own ≡ p → own < length c.pools
 unfolding station_of
-many_servers c = refl
+pool_within c p own has same = omega (arith, has, same, length-map c.pools (λ (s : List ℕ). length s))
+
+pub pool_at : (c : Standing) (p own : ℕ) (servers : List ℕ) → HasPool c p → own ≡ p → servers ≡ slice_index_or c.pools own servers
+    → slice_get c.pools own ≡ Some servers
+pool_at c p own servers has same at = get_at c.pools own servers (pool_within c p own has same) at
+
+pub has_default : (c : Standing) → IsSound c → HasPool c 0
+unfolding station_of
+has_default c sound = omega (arith, sound.default, length-map c.pools (λ (s : List ℕ). length s))
 
 -- ---- the decision
 
--- when the first server is free
-first_is : (c : Standing) (offers : List Offer) → 1 ≤ length c.servers → ControllerAfter offers c
-    → free_at (station_of c).servers (served (decided (station_of c) offers)) ≡ first_free c.servers
-first_is c offers some fits =
-    ap (λ n. free_at n (served (decided (station_of c) offers))) (many_servers c)
-    ∙ free_first (length c.servers) (served (decided (station_of c) offers)) some
-    ∙ ap first_free (sym fits.servers)
+-- when the first server of a pool is free
+first_is : (c : Standing) (offers : List Offer) (p : ℕ) (servers : List ℕ) → IsSound c → ControllerAfter offers c
+    → slice_get c.pools p ≡ Some servers
+    → free_at (servers_of (station_of c) p) (of_pool p (served (decided (station_of c) offers))) ≡ first_free servers
+first_is c offers p servers sound fits place =
+    let own : List Served = of_pool p (served (decided (station_of c) offers)) in
+    ap (λ n. free_at n own) (servers_at c p servers place)
+    ∙ free_first (length servers) own (sound.pools p servers place).some
+    ∙ ap first_free (sym (fits.pools p servers place))
 
 -- the decision of a tier is that of the definitions
-pub decide_is : (c : Standing) (offers : List Offer) (offer : Offer) (t : TierStanding) → 1 ≤ length c.servers → ControllerAfter offers c
-    → slice_get c.tiers offer.tier ≡ Some t
-    → decision_after t.rules (of_tier offer.tier (decided (station_of c) offers)) (first_free c.servers) offer.tick offer.service
+pub decide_is : (c : Standing) (offers : List Offer) (offer : Offer) (t : TierStanding) (servers : List ℕ) → IsSound c
+    → ControllerAfter offers c → slice_get c.tiers offer.tier ≡ Some t → slice_get c.pools offer.pool ≡ Some servers
+    → decision_after t.rules (of_tier offer.tier (decided (station_of c) offers)) (first_free servers) offer.tick offer.service
     ≡ decide (station_of c) (decided (station_of c) offers) offer
-decide_is c offers offer t some fits at = rw (rules_at c offer.tier t at, first_is c offers some fits) refl
-
-abbrev Chosen : ℕ → Bool → Decision
-Chosen finish b = if b then (Admitted finish) else Rejected
-
--- when each server is free after one more offer
-servers_chosen : (past : List Decided) (offer : Offer) (servers : List ℕ) (finish n : ℕ) (b : Bool)
-    → servers ≡ free_ticks n (served past)
-    → servers_after servers (Chosen finish b)
-    ≡ free_ticks n (served (past ++ record { offer = offer; decision = Chosen finish b } ∷ []))
-servers_chosen past offer servers finish n true is =
-    let request : Served = record { offer = offer; finish = finish } in
-    let more : served (past ++ record { offer = offer; decision = Admitted finish } ∷ []) ≡ served past ++ request ∷ [] =
-    served-push past (record { offer = offer; decision = Admitted finish }) in
-    rw more (ap (λ (s : List ℕ). drop 1 (insert_sorted finish s)) is ∙ sym (free_ticks-push n (served past) request))
-servers_chosen past offer servers finish n false is =
-    let same : served (past ++ record { offer = offer; decision = Rejected } ∷ []) ≡ served past =
-    served-push past (record { offer = offer; decision = Rejected }) ∙ append-nil (served past) in
-    rw same is
+decide_is c offers offer t servers sound fits at place =
+    rw (rules_at c offer.tier t at, first_is c offers offer.pool servers sound fits place) refl
 
 -- as many servers as before
 pub many_after : (servers : List ℕ) (decision : Decision) → length (servers_after servers decision) ≡ length servers
 many_after servers (Admitted finish) = length-exchanged finish servers
 many_after servers Rejected = refl
+
+-- when each server of a pool is free after one more offer of the pool
+servers_next : (past : List Decided) (offer : Offer) (servers : List ℕ) (decision : Decision)
+    → PoolFits (of_pool offer.pool (served past)) servers
+    → PoolFits (of_pool offer.pool (served (past ++ record { offer = offer; decision = decision } ∷ []))) (servers_after servers decision)
+servers_next past offer servers (Admitted finish) is =
+    let request : Served = record { offer = offer; finish = finish } in
+    let own : List Served = of_pool offer.pool (served past) in
+    let more : of_pool offer.pool (served (past ++ record { offer = offer; decision = Admitted finish } ∷ [])) ≡ own ++ request ∷ [] =
+    ap (of_pool offer.pool) (served-push past (record { offer = offer; decision = Admitted finish }))
+    ∙ of_pool-same offer.pool (served past) request refl in
+    rw (more, many_after servers (Admitted finish))
+    (ap (λ (s : List ℕ). drop 1 (insert_sorted finish s)) is ∙ sym (free_ticks-push (length servers) own request))
+servers_next past offer servers Rejected is =
+    let same : served (past ++ record { offer = offer; decision = Rejected } ∷ []) ≡ served past =
+    served-push past (record { offer = offer; decision = Rejected }) ∙ append-nil (served past) in
+    rw same is
+
+-- the pools after it
+pools_after : (c : Standing) (past : List Decided) (offer : Offer) (servers : List ℕ) (decision : Decision)
+    → ((p : ℕ) (s : List ℕ) → slice_get c.pools p ≡ Some s → PoolFits (of_pool p (served past)) s)
+    → slice_get c.pools offer.pool ≡ Some servers
+    → (p : ℕ) (s : List ℕ) → slice_get (slice_set c.pools offer.pool (servers_after servers decision)) p ≡ Some s
+    → PoolFits (of_pool p (served (past ++ record { offer = offer; decision = decision } ∷ []))) s
+pools_after c past offer servers decision fits place p s at =
+    elim (cases_eq p offer.pool) [
+      | inl same ↦
+          let within : offer.pool < length c.pools = slice_get_within c.pools offer.pool servers place in
+          let is : s ≡ servers_after servers decision =
+          set_here c.pools offer.pool (servers_after servers decision) s within (rw same at at) in
+          rw (is, same) (servers_next past offer servers decision (fits offer.pool servers place))
+      | inr apart ↦
+          rw (of_pool-apart p past offer decision (λ same. apart (sym same)))
+          (fits p s (set_there c.pools offer.pool p (servers_after servers decision) s apart at))
+    ]
 
 -- ---- the controller after one more offer
 
@@ -137,28 +181,28 @@ tiers_after c past request t next fits within own i found at =
           (fits i found (set_there c.tiers request.offer.tier i next found apart at))
     ]
 
-pub offer_fits : (c : Standing) (offers : List Offer) (offer : Offer) (t next : TierStanding) (decision : Decision)
-    → 1 ≤ length c.servers → ControllerAfter offers c → offer.tier < length c.tiers → slice_get c.tiers offer.tier ≡ Some t
-    → next.rules ≡ t.rules
+pub offer_fits : (c : Standing) (offers : List Offer) (offer : Offer) (t next : TierStanding) (servers : List ℕ) (decision : Decision)
+    → IsSound c → ControllerAfter offers c → offer.tier < length c.tiers → slice_get c.tiers offer.tier ≡ Some t
+    → slice_get c.pools offer.pool ≡ Some servers → next.rules ≡ t.rules
     → decision
-    ≡ decision_after t.rules (of_tier offer.tier (decided (station_of c) offers)) (first_free c.servers) offer.tick offer.service
+    ≡ decision_after t.rules (of_tier offer.tier (decided (station_of c) offers)) (first_free servers) offer.tick offer.service
     → TierFits (of_tier offer.tier (decided (station_of c) offers) ++ record { offer = offer; decision = decision } ∷ []) next
-    → ControllerAfter (offers ++ offer ∷ []) (with_tier c offer.tier next (servers_after c.servers decision) offer.tick)
-offer_fits c offers offer t next decision some fits within at rules is own =
+    → ControllerAfter (offers ++ offer ∷ [])
+    (with_offer c offer.tier next offer.pool (servers_after servers decision) offer.tick)
+offer_fits c offers offer t next servers decision sound fits within at place rules is own =
     let past : List Decided = decided (station_of c) offers in
-    let finish : ℕ = max (first_free c.servers) offer.tick + offer.service in
     let request : Decided = record { offer = offer; decision = decision } in
-    let chosen : Bool = nat_le TOKEN (credit t.rules (of_tier offer.tier past) offer.tick) in
-    let many : length (servers_after c.servers decision) ≡ length c.servers = many_after c.servers decision in
-    let kept : station_of (with_tier c offer.tier next (servers_after c.servers decision) offer.tick) ≡ station_of c =
-    station_kept c offer.tier t next (servers_after c.servers decision) offer.tick at rules many in
+    let kept : station_of (with_offer c offer.tier next offer.pool (servers_after servers decision) offer.tick) ≡ station_of c =
+    station_kept c offer.tier t next offer.pool servers (servers_after servers decision) offer.tick at place rules
+    (many_after servers decision) in
     let more : decided (station_of c) (offers ++ offer ∷ []) ≡ past ++ request ∷ [] =
     decided_from-push (station_of c) [] offers offer
-    ∙ ap (λ (d : Decision). past ++ record { offer = offer; decision = d } ∷ []) (sym (is ∙ decide_is c offers offer t some fits at)) in
+    ∙ ap (λ (d : Decision). past ++ record { offer = offer; decision = d } ∷ [])
+    (sym (is ∙ decide_is c offers offer t servers sound fits at place)) in
     record {
       offered = ap (λ n. n + 1) fits.offered ∙ sym (length-append offers (offer ∷ []));
       tick = sym (tick_from-push 0 offers offer);
-      servers = rw (kept, more, many, is) (servers_chosen past offer c.servers finish (length c.servers) chosen fits.servers);
+      pools = rw (kept, more) (pools_after c past offer servers decision fits.pools place);
       tiers = rw (kept, more) (tiers_after c past request t next fits.tiers within own);
     }
 
@@ -169,17 +213,44 @@ first_after : (servers : List ℕ) (decision : Decision) → 1 ≤ length server
 first_after servers (Admitted finish) some later = first-exchanged finish servers some later
 first_after servers Rejected some later = omega arith
 
-pub offer_sound : (c : Standing) (i tick service : ℕ) (decision : Decision) (next : TierStanding)
-    → IsSound c → c.clock ≡ tick → AreComplete c.tiers tick → i < length c.tiers → c.offers < MAX_OFFERS → service ≤ MAX_SERVICE
-    → first_free c.servers ≤ finish_or (first_free c.servers) decision
-    → finish_or (first_free c.servers) decision ≤ max (first_free c.servers) tick + service
+-- a pool after an offer of it
+pool_sound : (offers tick service : ℕ) (servers : List ℕ) (decision : Decision) → IsPool offers servers → tick ≤ MAX_TICK
+    → service ≤ MAX_SERVICE → first_free servers ≤ finish_or (first_free servers) decision
+    → finish_or (first_free servers) decision ≤ max (first_free servers) tick + service
+    → IsPool (offers + 1) (servers_after servers decision)
+pool_sound offers tick service servers decision own early short longer bound = record {
+  some = omega (arith, many_after servers decision, own.some);
+  free = omega (arith, own.free, first_after servers decision own.some longer);
+}
+
+-- a finish fits beside a delay
+pub finish_bound : (offers free tick service : ℕ) (decision : Decision) → finish_or free decision ≤ max free tick + service
+    → free ≤ MAX_TICK + MAX_SERVICE * offers → offers < MAX_OFFERS → tick ≤ MAX_TICK → service ≤ MAX_SERVICE
+    → finish_or 0 decision ≤ MAX_TICK + MAX_SERVICE * MAX_OFFERS
+finish_bound offers free tick service (Admitted finish) bound early room before short = omega arith
+finish_bound offers free tick service Rejected bound early room before short = omega arith
+
+pub offer_sound : (c : Standing) (i tick service p : ℕ) (decision : Decision) (next : TierStanding) (servers : List ℕ)
+    → IsSound c → c.clock ≡ tick → AreComplete c.tiers tick → i < length c.tiers → slice_get c.pools p ≡ Some servers
+    → c.offers < MAX_OFFERS → service ≤ MAX_SERVICE
+    → first_free servers ≤ finish_or (first_free servers) decision
+    → finish_or (first_free servers) decision ≤ max (first_free servers) tick + service
     → IsShare (c.offers + 1) tick tick next
-    → IsSound (with_tier c i next (servers_after c.servers decision) tick)
-offer_sound c i tick service decision next sound now complete within room short longer bound share = record {
+    → IsSound (with_offer c i next p (servers_after servers decision) tick)
+offer_sound c i tick service p decision next servers sound now complete within place room short longer bound share = record {
   four = length-set c.tiers i next ∙ sound.four;
   offers = omega arith;
-  some = omega (arith, many_after c.servers decision, sound.some);
-  free = omega (arith, now, sound.free, sound.clock.1, first_after c.servers decision sound.some longer);
+  default = omega (arith, length-set c.pools p (servers_after servers decision), sound.default);
+  pools = λ q s at. elim (cases_eq q p) [
+    | inl same ↦
+        let is : s ≡ servers_after servers decision =
+        set_here c.pools p (servers_after servers decision) s (slice_get_within c.pools p servers place) (rw same at at) in
+        rw is
+        (pool_sound c.offers tick service servers decision (sound.pools p servers place) (omega (arith, now, sound.clock.1)) short longer bound)
+    | inr apart ↦
+        let there = sound.pools q s (set_there c.pools p q (servers_after servers decision) s apart at) in
+        record { some = there.some; free = omega (arith, there.free) }
+  ];
   clock = (omega (arith, now), sound.clock.1);
   tiers = λ j found at. elim (cases_eq j i) [
     | inl same ↦
@@ -214,35 +285,63 @@ four_rules (p ∷ q ∷ []) a b c d e f g h long pa pb pc pd = absurd (omega ari
 four_rules (p ∷ q ∷ r ∷ []) a b c d e f g h long pa pb pc pd = absurd (omega arith)
 four_rules (p ∷ q ∷ r ∷ s ∷ t ∷ rest) a b c d e f g h long pa pb pc pd = absurd (omega arith)
 
-abbrev pub started : List TierStanding → List ℕ → Standing
-started ts servers = record { tiers = ts; servers = servers; offers = 0; tick = 0; clock = 0 }
+abbrev pub started : List TierStanding → List (List ℕ) → Standing
+started ts pools = record { tiers = ts; pools = pools; offers = 0; tick = 0; clock = 0 }
 
-pub started_sound : (ts : List TierStanding) (servers : List ℕ) (n : ℕ) → length ts ≡ 4 → AreNew ts → 1 ≤ n → servers ≡ replicate n 0
-    → IsSound (started ts servers)
-started_sound ts servers n long news some is = record {
-  four = long;
-  offers = omega arith;
+-- pools of these numbers of servers, all of which are free
+abbrev pub fresh : List ℕ → List (List ℕ)
+fresh servers = map (λ n. replicate n 0) servers
+
+-- one of them
+fresh_at : (servers : List ℕ) (p : ℕ) (s : List ℕ) → All (λ n. (1 ≤ n) × (n ≤ MAX_SERVERS)) servers → slice_get (fresh servers) p ≡ Some s
+    → (n : ℕ) × (1 ≤ n) × (s ≡ replicate n 0)
+fresh_at [] p s each place = absurd (cc)
+fresh_at (n ∷ servers) zero s each place = (n, (each zero n (omega arith)).0, sym (same_some (replicate n 0) s place))
+fresh_at (n ∷ servers) (suc p) s each place = fresh_at servers p s (λ k d within. each (suc k) d (omega (arith, within))) place
+
+fresh_sound : (s : List ℕ) (n : ℕ) → 1 ≤ n → s ≡ replicate n 0 → IsPool 0 s
+fresh_sound s n some is = record {
   some = rw (is, length-replicate {A = ℕ} n 0) some;
   free = rw (is, get_or-replicate {A = ℕ} n 0 0 0 some) (omega arith);
+}
+
+fresh_fits : (s : List ℕ) (n : ℕ) → s ≡ replicate n 0 → PoolFits [] s
+fresh_fits s n is = rw (is, length-replicate {A = ℕ} n 0) (sym (free_ticks-none n))
+
+fresh_lengths : (servers : List ℕ) → map (λ (s : List ℕ). length s) (fresh servers) ≡ servers
+fresh_lengths [] = refl
+fresh_lengths (n ∷ servers) = rw (length-replicate {A = ℕ} n 0, fresh_lengths servers) refl
+
+pub started_sound : (ts : List TierStanding) (pools : List (List ℕ)) (servers : List ℕ) → length ts ≡ 4 → AreNew ts → ArePools servers
+    → pools ≡ fresh servers → IsSound (started ts pools)
+started_sound ts pools servers long news are is = record {
+  four = long;
+  offers = omega arith;
+  default = rw is (omega (arith, are.default, length-map servers (λ (n : ℕ). replicate {A = ℕ} n 0)));
+  pools = λ p s place.
+      let own = fresh_at servers p s are.each (rw is at place) in
+      fresh_sound s own.0 own.1 own.2;
   clock = (omega arith, omega arith);
   tiers = λ i t at. (news i t at).1;
 }
 
-pub started_fits : (ts : List TierStanding) (servers : List ℕ) (n : ℕ) → AreNew ts → servers ≡ replicate n 0
-    → ControllerAfter [] (started ts servers)
+pub started_fits : (ts : List TierStanding) (pools : List (List ℕ)) (servers : List ℕ) → AreNew ts → ArePools servers
+    → pools ≡ fresh servers → ControllerAfter [] (started ts pools)
 unfolding decided_from served tick_from
-started_fits ts servers n news is = record {
+started_fits ts pools servers news are is = record {
   offered = refl;
   tick = refl;
-  servers = rw (is, length-replicate {A = ℕ} n 0) (sym (free_ticks-none n));
+  pools = λ p s place.
+      let own = fresh_at servers p s are.each (rw is at place) in
+      rw (of_pool-none p) (fresh_fits s own.0 own.2);
   tiers = λ i t at. rw (of_tier-none i) (news i t at).0;
 }
 
-pub started_station : (policies : List PolicyNumbers) (ts : List TierStanding) (servers : List ℕ) (n : ℕ)
-    → map (λ (t : TierStanding). t.rules) ts ≡ policies → servers ≡ replicate n 0
-    → station_of (started ts servers) ≡ record { policies = policies; servers = n }
+pub started_station : (policies : List PolicyNumbers) (ts : List TierStanding) (pools : List (List ℕ)) (servers : List ℕ)
+    → map (λ (t : TierStanding). t.rules) ts ≡ policies → pools ≡ fresh servers
+    → station_of (started ts pools) ≡ record { policies = policies; pools = servers }
 unfolding station_of
-started_station policies ts servers n rules is = rw (rules, is, length-replicate {A = ℕ} n 0) refl
+started_station policies ts pools servers rules is = rw (rules, is, fresh_lengths servers) refl
 
 -- ---- what the controller's calls ask of a tier, and what they get
 
@@ -277,37 +376,39 @@ offered_at c i tick t sound now complete within at =
     (share_later c.offers c.tick c.clock c.offers tick t (sound.tiers i t there) (omega arith) (omega (arith, now)))
     (complete i t there))
 
-pub offered_decision : (c : Standing) (i tick service delay : ℕ) (t : TierStanding) (offers : List Offer) (decision : Decision)
-    → 1 ≤ length c.servers → i < length c.tiers → t ≡ slice_index_or c.tiers i t → ControllerAfter offers c
-    → Decides (slice_index_or c.tiers i t) (first_free c.servers) tick service decision
+pub offered_decision : (c : Standing) (p i tick service delay : ℕ) (t : TierStanding) (servers : List ℕ) (offers : List Offer)
+    (decision : Decision) → IsSound c → i < length c.tiers → t ≡ slice_index_or c.tiers i t → slice_get c.pools p ≡ Some servers
+    → ControllerAfter offers c → Decides (slice_index_or c.tiers i t) (first_free servers) tick service decision
     → decision
-    ≡ decide (station_of c) (decided (station_of c) offers) (record { tier = i; tick = tick; service = service; delay = delay })
-offered_decision c i tick service delay t offers decision some within at fits decides =
+    ≡ decide (station_of c) (decided (station_of c) offers)
+    (record { pool = p; tier = i; tick = tick; service = service; delay = delay })
+offered_decision c p i tick service delay t servers offers decision sound within at place fits decides =
     let found : slice_get c.tiers i ≡ Some t = get_at c.tiers i t within at in
     rw (← at) at (decides (of_tier i (decided (station_of c) offers)) (rw (← at) (fits.tiers i t found)))
-    ∙ decide_is c offers (record { tier = i; tick = tick; service = service; delay = delay }) t some fits found
+    ∙ decide_is c offers (record { pool = p; tier = i; tick = tick; service = service; delay = delay }) t servers sound fits found place
 
-pub offered_fits : (c : Standing) (i tick service delay : ℕ) (t next : TierStanding) (offers : List Offer) (decision : Decision)
-    → 1 ≤ length c.servers → i < length c.tiers → t ≡ slice_index_or c.tiers i t → ControllerAfter offers c
-    → Decides (slice_index_or c.tiers i t) (first_free c.servers) tick service decision
+pub offered_fits : (c : Standing) (p i tick service delay : ℕ) (t next : TierStanding) (servers : List ℕ) (offers : List Offer)
+    (decision : Decision) → IsSound c → i < length c.tiers → t ≡ slice_index_or c.tiers i t → slice_get c.pools p ≡ Some servers
+    → ControllerAfter offers c → Decides (slice_index_or c.tiers i t) (first_free servers) tick service decision
     → Takes (slice_index_or c.tiers i t) tick delay decision next
     → next.rules ≡ (slice_index_or c.tiers i t).rules
-    → ControllerAfter (offers ++ record { tier = i; tick = tick; service = service; delay = delay } ∷ [])
-    (with_tier c i next (servers_after c.servers decision) tick)
-offered_fits c i tick service delay t next offers decision some within at fits decides stands rules =
-    let offer : Offer = record { tier = i; tick = tick; service = service; delay = delay } in
+    → ControllerAfter (offers ++ record { pool = p; tier = i; tick = tick; service = service; delay = delay } ∷ [])
+    (with_offer c i next p (servers_after servers decision) tick)
+offered_fits c p i tick service delay t next servers offers decision sound within at place fits decides stands rules =
+    let offer : Offer = record { pool = p; tier = i; tick = tick; service = service; delay = delay } in
     let past : List Decided = of_tier i (decided (station_of c) offers) in
     let found : slice_get c.tiers i ≡ Some t = get_at c.tiers i t within at in
     let own : TierFits past (slice_index_or c.tiers i t) = rw (← at) (fits.tiers i t found) in
-    offer_fits c offers offer t next decision some fits within found (rw (← at) at rules) (rw (← at) at (decides past own))
-    (stands past offer refl refl own)
+    offer_fits c offers offer t next servers decision sound fits within found place (rw (← at) at rules)
+    (rw (← at) at (decides past own)) (stands past offer refl refl own)
 
-pub offered_station : (c : Standing) (i tick : ℕ) (decision : Decision) (t next : TierStanding) → i < length c.tiers
-    → t ≡ slice_index_or c.tiers i t → next.rules ≡ (slice_index_or c.tiers i t).rules
-    → station_of (with_tier c i next (servers_after c.servers decision) tick) ≡ station_of c
-offered_station c i tick decision t next within at rules =
-    station_kept c i t next (servers_after c.servers decision) tick (get_at c.tiers i t within at) (rw (← at) at rules)
-    (many_after c.servers decision)
+pub offered_station : (c : Standing) (p i tick : ℕ) (decision : Decision) (t next : TierStanding) (servers : List ℕ)
+    → i < length c.tiers → t ≡ slice_index_or c.tiers i t → slice_get c.pools p ≡ Some servers
+    → next.rules ≡ (slice_index_or c.tiers i t).rules
+    → station_of (with_offer c i next p (servers_after servers decision) tick) ≡ station_of c
+offered_station c p i tick decision t next servers within at place rules =
+    station_kept c i t next p servers (servers_after servers decision) tick (get_at c.tiers i t within at) place
+    (rw (← at) at rules) (many_after servers decision)
 
 -- its clock is not beyond the tick up to which time has passed
 pub clock_at : (c : Standing) (i tick : ℕ) (t : TierStanding) → IsSound c → c.clock ≡ tick → i < length c.tiers
@@ -316,13 +417,13 @@ clock_at c i tick t sound now within at =
     rw (← at) (let own = (sound.tiers i t (get_at c.tiers i t within at)).clock in omega (arith, own, now))
 
 -- what a request of a tier finds that comes at a later tick
-pub foreseen_at : (c : Standing) (i tick : ℕ) (t : TierStanding) (offers : List Offer) (found : Outlook) → 1 ≤ length c.servers
-    → i < length c.tiers → t ≡ slice_index_or c.tiers i t → ControllerAfter offers c
-    → Foresees (slice_index_or c.tiers i t) (first_free c.servers) tick found
-    → found ≡ outlook (station_of c) (decided (station_of c) offers) i tick
-foreseen_at c i tick t offers found some within at fits foresees =
+pub foreseen_at : (c : Standing) (p i tick : ℕ) (t : TierStanding) (servers : List ℕ) (offers : List Offer) (found : Outlook)
+    → IsSound c → i < length c.tiers → t ≡ slice_index_or c.tiers i t → slice_get c.pools p ≡ Some servers
+    → ControllerAfter offers c → Foresees (slice_index_or c.tiers i t) (first_free servers) tick found
+    → found ≡ outlook (station_of c) (decided (station_of c) offers) p i tick
+foreseen_at c p i tick t servers offers found sound within at place fits foresees =
     let is : slice_get c.tiers i ≡ Some t = get_at c.tiers i t within at in
-    rw (rules_at c i t is, first_is c offers some fits)
+    rw (rules_at c i t is, first_is c offers p servers sound fits place)
     (rw (← at) at (foresees (of_tier i (decided (station_of c) offers)) (rw (← at) (fits.tiers i t is))))
 
 -- ---- the controls of all tiers

@@ -1,16 +1,16 @@
 -- The servers one by one, and a single one.
-use Rattle.std.proofs.Common.{◌≡◌, ℕ, zero, suc, ◌+◌, ◌≤◌, min, max, List, [], ◌∷◌, ◌++◌, length, drop, replicate, Bool, true, false, refl, sym, ◌∙◌, ap, arith, append-nil, nat_le, if◌then◌else◌, subst, inl, inr}
+use Rattle.std.proofs.Common.{◌≡◌, ℕ, zero, suc, ◌+◌, ◌≤◌, min, max, List, [], ◌∷◌, ◌++◌, length, drop, replicate, Bool, true, false, refl, sym, ◌∙◌, ap, arith, append-nil, nat_le, subst, inl, inr}
 use Rattle.std.specs.Prelude.{◌⊎◌}
 use Rattle.std.proofs.lemmas.Bool.{cases_lt, cases_eq, eq-eqb, ne_eqb}
 use Rattle.std.proofs.lemmas.List.{map-append, length-replicate}
 use Rattle.token_bucket.specs.Reference.{TOKEN}
-use Rattle.admission.specs.declared.control.Decision.TheVariants.{Admitted, Rejected}
-use Rattle.admission.specs.Reference.{Station, rules_of, Offer, Decided, Served, of_tier, served, finishes, insert_sorted, sorted, free_at, finish_after, credit, decided_next, decided_from, decided}
+use Rattle.admission.specs.Reference.{Station, rules_of, servers_of, Offer, Decided, Served, of_tier, served, of_pool, finishes, insert_sorted, sorted, free_at, finish_after, finish_in, credit, decided_next, decided_from, decided}
 use Rattle.admission.specs.Servers.{free_ticks, least, with_first, finish_on, finishes_in_turn, offers_served, last_finish, FirstComeFirstServed, OneServerFinishes}
 use Rattle.admission.specs.Standing.{first_free}
 use Rattle.admission.specs.Tally.{remove_one}
 use Rattle.admission.specs.Laws.{RunsTo, FinishFromFinish}
-use Rattle.admission.proofs.RequestLemmas.{served-push, last_finish-push}
+use Rattle.admission.proofs.RequestLemmas.{served-push, of_pool-same, of_pool-other, last_finish-push}
+use Rattle.admission.proofs.PoolLemmas.{Chosen}
 use Rattle.admission.proofs.SortLemmas.{insert-none, insert-front, insert-past, insert-swap, remove-insert, remove-here}
 use Rattle.admission.proofs.ServerLemmas.{free_ticks-none, free_ticks-push, length-free_ticks, free_first}
 
@@ -19,33 +19,45 @@ use Rattle.admission.proofs.ServerLemmas.{free_ticks-none, free_ticks-push, leng
 abbrev pub Next : ℕ → List Served → Offer → Served
 Next servers requests offer = record { offer = offer; finish = finish_after servers requests offer }
 
-abbrev pub Chosen : Offer → ℕ → Bool → Decided
-Chosen offer finish b = record { offer = offer; decision = if b then (Admitted finish) else Rejected }
+-- one more of a pool
+own_push : (station : Station) (pool : ℕ) (requests : List Served) (offer : Offer) → offer.pool ≡ pool
+    → of_pool pool (requests ++ record { offer = offer; finish = finish_in station requests offer } ∷ [])
+    ≡ of_pool pool requests ++ Next (servers_of station pool) (of_pool pool requests) offer ∷ []
+own_push station pool requests offer same =
+    of_pool-same pool requests (record { offer = offer; finish = finish_in station requests offer }) same
+    ∙ ap (λ p. of_pool pool requests ++ Next (servers_of station p) (of_pool p requests) offer ∷ []) same
 
-keeps_chosen : (servers : ℕ) (P : List Served → Type 0) (past : List Decided) (offer : Offer) (b : Bool)
-    → ((requests : List Served) (offer : Offer) → P requests → P (requests ++ Next servers requests offer ∷ []))
-    → P (served past) → P (served (past ++ Chosen offer (finish_after servers (served past) offer) b ∷ []))
-keeps_chosen servers P past offer true step start =
-    rw (served-push past (Chosen offer (finish_after servers (served past) offer) true)) (step (served past) offer start)
-keeps_chosen servers P past offer false step start =
-    rw (served-push past (Chosen offer (finish_after servers (served past) offer) false), append-nil (served past)) start
+abbrev Step : Station → ℕ → (List Served → Type 0) → Type 0
+Step station pool P =
+    (requests : List Served) (offer : Offer) → P requests → P (requests ++ Next (servers_of station pool) requests offer ∷ [])
 
-keeps_from : (station : Station) (P : List Served → Type 0) (past : List Decided) (offers : List Offer)
-    → ((requests : List Served) (offer : Offer) → P requests → P (requests ++ Next station.servers requests offer ∷ []))
-    → P (served past) → P (served (decided_from station past offers))
+keeps_chosen : (station : Station) (pool : ℕ) (P : List Served → Type 0) (past : List Decided) (offer : Offer) (b : Bool)
+    → Step station pool P → P (of_pool pool (served past))
+    → P (of_pool pool (served (past ++ Chosen offer (finish_in station (served past) offer) b ∷ [])))
+keeps_chosen station pool P past offer true step start =
+    let request : Served = record { offer = offer; finish = finish_in station (served past) offer } in
+    rw (served-push past (Chosen offer (finish_in station (served past) offer) true))
+    (elim (cases_eq offer.pool pool) [
+      | inl same ↦ rw (own_push station pool (served past) offer same) (step (of_pool pool (served past)) offer start)
+      | inr apart ↦ rw (of_pool-other pool (served past) request apart) start
+    ])
+keeps_chosen station pool P past offer false step start =
+    rw (served-push past (Chosen offer (finish_in station (served past) offer) false), append-nil (served past)) start
+
+keeps_from : (station : Station) (pool : ℕ) (P : List Served → Type 0) (past : List Decided) (offers : List Offer)
+    → Step station pool P → P (of_pool pool (served past)) → P (of_pool pool (served (decided_from station past offers)))
 unfolding decided_from
-keeps_from station P past [] step start = start
-keeps_from station P past (offer ∷ offers) step start =
-    keeps_from station P (past ++ decided_next station past offer ∷ []) offers step
-    (keeps_chosen station.servers P past offer
+keeps_from station pool P past [] step start = start
+keeps_from station pool P past (offer ∷ offers) step start =
+    keeps_from station pool P (past ++ decided_next station past offer ∷ []) offers step
+    (keeps_chosen station pool P past offer
     (nat_le TOKEN (credit (rules_of station offer.tier) (of_tier offer.tier past) offer.tick)) step start)
 
--- what holds of no request, and then of each next one, holds of all that are admitted
-served_keeps : (station : Station) (P : List Served → Type 0) (offers : List Offer) → P []
-    → ((requests : List Served) (offer : Offer) → P requests → P (requests ++ Next station.servers requests offer ∷ []))
-    → P (served (decided station offers))
-unfolding served
-served_keeps station P offers start step = keeps_from station P [] offers step start
+-- what holds of no request, and then of each next one, holds of all that are admitted of a pool
+pool_keeps : (station : Station) (pool : ℕ) (P : List Served → Type 0) (offers : List Offer) → P [] → Step station pool P
+    → P (of_pool pool (served (decided station offers)))
+unfolding served of_pool
+pool_keeps station pool P offers start step = keeps_from station pool P [] offers step start
 
 offers-push : (requests : List Served) (request : Served) → offers_served (requests ++ request ∷ []) ≡ offers_served requests ++ request.offer ∷ []
 offers-push requests request = map-append (λ (r : Served). r.offer) requests (request ∷ [])
@@ -84,14 +96,16 @@ last_push requests offer is =
     one_push requests offer ∙ ap (λ n. max n offer.tick + offer.service) is
     ∙ sym (ap last_finish (offers-push requests (Next 1 requests offer)) ∙ last_finish-push (offers_served requests) offer)
 
-last_is : (station : Station) (offers : List Offer) → station.servers ≡ 1 → LastIs (served (decided station offers))
-last_is station offers one = served_keeps station LastIs offers last_none (λ requests offer is. rw one (last_push requests offer is))
+last_is : (station : Station) (offers : List Offer) (pool : ℕ) → servers_of station pool ≡ 1
+    → LastIs (of_pool pool (served (decided station offers)))
+last_is station offers pool one =
+    pool_keeps station pool LastIs offers last_none (λ requests offer is. rw one (last_push requests offer is))
 
 pub one_server_finishes : OneServerFinishes
 one_server_finishes station offers offer one =
-    let requests : List Served = served (decided station offers) in
+    let requests : List Served = of_pool offer.pool (served (decided station offers)) in
     ap (λ n. finish_after n requests offer) one
-    ∙ ap (λ n. max n offer.tick + offer.service) (last_is station offers one)
+    ∙ ap (λ n. max n offer.tick + offer.service) (last_is station offers offer.pool one)
     ∙ sym (last_finish-push (offers_served requests) offer)
 
 runs-push : (before last : ℕ) (requests : List Served) (request : Served) → RunsTo before requests last
@@ -104,14 +118,14 @@ runs-none : RunsTo 0 [] (free_at 1 [])
 unfolding RunsTo free_at sorted
 runs-none = refl
 
-runs : (station : Station) (offers : List Offer) → station.servers ≡ 1
-    → RunsTo 0 (served (decided station offers)) (free_at 1 (served (decided station offers)))
-runs station offers one =
-    served_keeps station (λ requests. RunsTo 0 requests (free_at 1 requests)) offers runs-none
+runs : (station : Station) (offers : List Offer) (pool : ℕ) → servers_of station pool ≡ 1
+    → RunsTo 0 (of_pool pool (served (decided station offers))) (free_at 1 (of_pool pool (served (decided station offers))))
+runs station offers pool one =
+    pool_keeps station pool (λ requests. RunsTo 0 requests (free_at 1 requests)) offers runs-none
     (λ requests offer is. rw (one, one_push requests offer) (runs-push 0 (free_at 1 requests) requests (Next 1 requests offer) is refl))
 
 pub finish_from_finish : FinishFromFinish
-finish_from_finish station offers one = rw (← last_is station offers one) (runs station offers one)
+finish_from_finish station offers pool one = rw (← last_is station offers pool one) (runs station offers pool one)
 
 -- ---- first come, first served
 
@@ -269,6 +283,6 @@ turn_push n requests offer some turn =
     }
 
 pub first_come_first_served : FirstComeFirstServed
-first_come_first_served station offers some =
-    (served_keeps station (InTurn station.servers) offers (turn_none station.servers)
-    (λ requests offer turn. turn_push station.servers requests offer some turn)).finish
+first_come_first_served station offers pool some =
+    (pool_keeps station pool (InTurn (servers_of station pool)) offers (turn_none (servers_of station pool))
+    (λ requests offer turn. turn_push (servers_of station pool) requests offer some turn)).finish

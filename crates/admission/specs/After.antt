@@ -7,7 +7,7 @@ use Rattle.token_bucket.specs.Calls.{Past}
 use Rattle.admission.specs.declared.policy.PolicyNumbers.{PolicyNumbers}
 use Rattle.admission.specs.Reference.{Offer, Decided, Served, of_tier, is_admitted, is_rejected, served, completion}
 use Rattle.admission.specs.Reference.{sample, samples, by_completion, control_at, rate_after, rate_at, credit, decided}
-use Rattle.admission.specs.Reference.{tick_from, Station, rules_of, free_at, controls_until}
+use Rattle.admission.specs.Reference.{tick_from, Station, rules_of, servers_of, of_pool, free_at, controls_until}
 use Rattle.admission.specs.Servers.{free_ticks}
 use Rattle.admission.specs.Standing.{window_of, Due, TierStanding, Standing, station_of}
 use Rattle.admission.specs.declared.control.Outlook.{Outlook}
@@ -64,11 +64,16 @@ pub record TierFits (past : List Decided) (t : TierStanding) : Type 0 where
   pub admitted : t.flight.admitted ≡ length (served past)
   pub rejected : t.rejected ≡ count_by (λ r. is_rejected r.decision) past
 
--- a controller that stands so after these offers: each tier by its own requests, the servers by those of all tiers
+-- when the servers of a pool are free after these requests of the pool
+abbrev pub PoolFits : List Served → List ℕ → Type 0
+PoolFits past servers = servers ≡ free_ticks (length servers) past
+
+-- a controller that stands so after these offers: each tier by its own requests, each pool by its own of all tiers
 pub record ControllerAfter (offers : List Offer) (c : Standing) : Type 0 where
   pub offered : c.offers ≡ length offers
   pub tick : c.tick ≡ tick_from 0 offers
-  pub servers : c.servers ≡ free_ticks (length c.servers) (served (decided (station_of c) offers))
+  pub pools : (p : ℕ) (servers : List ℕ) → slice_get c.pools p ≡ Some servers
+      → PoolFits (of_pool p (served (decided (station_of c) offers))) servers
   pub tiers : (i : ℕ) (t : TierStanding) → slice_get c.tiers i ≡ Some t
       → TierFits (of_tier i (decided (station_of c) offers)) t
 
@@ -81,13 +86,13 @@ pub record StandsAsBefore (old new : Standing) : Type 0 where
 
 -- Which offered requests are admitted.
 
--- what a request of a tier finds that comes at `tick` after these: its credit and the rate in force, by the rules of
--- its tier over the requests of its tier, and when a server is free of the admitted requests of all tiers
-abbrev pub outlook : Station → List Decided → ℕ → ℕ → Outlook
-outlook station past tier tick = record {
+-- what a request of a pool and a tier finds that comes at `tick` after these: its credit and the rate in force, by the
+-- rules of its tier over the requests of its tier, and when a server of its pool is free of the pool's requests
+abbrev pub outlook : Station → List Decided → ℕ → ℕ → ℕ → Outlook
+outlook station past pool tier tick = record {
   credit = credit (rules_of station tier) (of_tier tier past) tick;
   rate = rate_at (rules_of station tier) (served (of_tier tier past)) tick;
-  free = free_at station.servers (served past);
+  free = free_at (servers_of station pool) (of_pool pool (served past));
 }
 
 -- the controls of a tier, up to the tick of the last of these offers

@@ -3,7 +3,7 @@ use Rattle.std.specs.Prelude.{◌≡◌, ℕ, ◌+◌, ◌-◌, ◌*◌, ◌<◌
 use Rattle.token_bucket.specs.Reference.{TOKEN, accrual}
 use Rattle.admission.specs.declared.policy.PolicyNumbers.{PolicyNumbers}
 use Rattle.admission.specs.declared.control.Decision.TheVariants.{Rejected}
-use Rattle.admission.specs.Reference.{Station, rules_of, Offer, Decided, Served, of_tier, served}
+use Rattle.admission.specs.Reference.{Station, rules_of, servers_of, Offer, Decided, Served, of_tier, served, of_pool}
 use Rattle.admission.specs.Reference.{is_admitted, completion, by_completion, control_at, rate_at, credit, decide}
 use Rattle.admission.specs.Reference.{decided}
 use Rattle.admission.specs.Servers.{last_finish, offers_served}
@@ -71,11 +71,12 @@ RunsTo before [] last = before ≡ last
 RunsTo before (request ∷ requests) last =
     (request.finish ≡ max before request.offer.tick + request.offer.service) × RunsTo request.finish requests last
 
--- where there is one server, the finishes of the admitted requests of all tiers run so from 0 to the finish after which
--- the next one is served, of whatever tier it is
+-- where a pool has one server, the finishes of its admitted requests of all tiers run so from 0 to the finish after
+-- which the pool's next one is served, of whatever tier it is
 abbrev pub FinishFromFinish : Type 0
-FinishFromFinish = (station : Station) (offers : List Offer) → station.servers ≡ 1
-    → RunsTo 0 (served (decided station offers)) (last_finish (offers_served (served (decided station offers))))
+FinishFromFinish = (station : Station) (offers : List Offer) (pool : ℕ) → servers_of station pool ≡ 1
+    → RunsTo 0 (of_pool pool (served (decided station offers)))
+    (last_finish (offers_served (of_pool pool (served (decided station offers)))))
 
 -- the first offered request of a tier finds a full bucket, whenever it comes and whatever other tiers were offered
 abbrev pub FirstCredit : Type 0

@@ -3,6 +3,7 @@ pub mod InFlight
 pub mod Laws
 pub mod Limits
 pub mod OneTier
+pub mod Pools
 pub mod Reference
 pub mod Rules
 pub mod Running

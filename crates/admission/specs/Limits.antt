@@ -28,9 +28,13 @@ MAX_TARGET = 1000000000000
 abbrev pub MAX_SERVICE : ℕ
 MAX_SERVICE = 20000000000
 
--- the most servers
+-- the most servers of a pool
 abbrev pub MAX_SERVERS : ℕ
 MAX_SERVERS = 1024
+
+-- the most pools beside the default one
+abbrev pub MAX_POOLS : ℕ
+MAX_POOLS = 16
 
 -- the longest delay, in ticks
 abbrev pub MAX_DELAY : ℕ

@@ -28,20 +28,26 @@ no_rules = record {
   depth = 0;
 }
 
--- what requests come to: the policies in the order of their tiers, and how many servers there are
+-- what requests come to: the policies in the order of their tiers, and how many servers each pool has, the default
+-- pool first
 pub record Station : Type 0 where
   pub policies : List PolicyNumbers
-  pub servers : ℕ
+  pub pools : List ℕ
 
 -- the rules of a tier
 unfoldable pub rules_of : Station → ℕ → PolicyNumbers
 rules_of station tier = slice_index_or station.policies tier no_rules
 
+-- how many servers a pool has
+unfoldable pub servers_of : Station → ℕ → ℕ
+servers_of station pool = slice_index_or station.pools pool 0
+
 -- Requests that are offered, decided and served.
 
--- an offered request: its tier, the tick that it comes at, how long a server works on it, and how long its response
--- takes beside that
+-- an offered request: the pool whose servers work on it, its tier, the tick that it comes at, how long a server works
+-- on it, and how long its response takes beside that
 pub record Offer : Type 0 where
+  pub pool : ℕ
   pub tier : ℕ
   pub tick : ℕ
   pub service : ℕ
@@ -78,6 +84,10 @@ unfoldable pub served : List Decided → List Served
 served [] = []
 served (request ∷ requests) = as_served request.offer request.decision ++ served requests
 
+-- those that this pool's servers work on, in order
+unfoldable pub of_pool : ℕ → List Served → List Served
+of_pool pool requests = filter (λ r. nat_eq r.offer.pool pool) requests
+
 abbrev pub finishes : List Served → List ℕ
 finishes requests = map (λ r. r.finish) requests
 
@@ -94,10 +104,15 @@ sorted (x ∷ xs) = insert_sorted x (sorted xs)
 unfoldable pub free_at : ℕ → List Served → ℕ
 free_at n requests = slice_index_or (reverse (sorted (finishes requests))) (n - 1) 0
 
--- the offered request's finish, where it is served after these: its service begins when it comes, or when a server is
--- free, whichever is later
+-- the offered request's finish, where that many servers work on these requests and then on it: its service begins when
+-- it comes, or when a server is free, whichever is later
 abbrev pub finish_after : ℕ → List Served → Offer → ℕ
 finish_after servers requests offer = max (free_at servers requests) offer.tick + offer.service
+
+-- its finish in its pool, after those of these requests that are of the pool
+abbrev pub finish_in : Station → List Served → Offer → ℕ
+finish_in station requests offer =
+    finish_after (servers_of station offer.pool) (of_pool offer.pool requests) offer
 
 -- the tick at which a response is complete: its delay after the end of its service
 abbrev pub completion : Served → ℕ
@@ -211,11 +226,11 @@ abbrev pub credit : PolicyNumbers → List Decided → ℕ → ℕ
 credit rules past tick = least_balance (rate_at rules (served past)) (rules.depth * TOKEN) tick past
 
 -- a request is admitted exactly where its credit, by the rules of its tier over the requests of its tier, holds a
--- token; it is served after the admitted requests of all tiers
+-- token; it is served after the admitted requests of its pool, of whatever tier they are
 abbrev pub decide : Station → List Decided → Offer → Decision
 decide station past offer =
     if nat_le TOKEN (credit (rules_of station offer.tier) (of_tier offer.tier past) offer.tick)
-    then (Admitted (finish_after station.servers (served past) offer)) else Rejected
+    then (Admitted (finish_in station (served past) offer)) else Rejected
 
 abbrev pub decided_next : Station → List Decided → Offer → Decided
 decided_next station past offer = record { offer = offer; decision = decide station past offer }

@@ -3,8 +3,9 @@ use Rattle.std.specs.Prelude.{◌≡◌, ℕ, ◌+◌, ◌-◌, ◌*◌, ◌<◌
 use Rattle.std.specs.Prelude.{replicate, sum_by, nat_eq, nat_le, slice_index_or, if◌then◌else◌}
 use Rattle.std.specs.List.{prefix_len}
 use Rattle.admission.specs.declared.policy.PolicyNumbers.{PolicyNumbers}
-use Rattle.admission.specs.Reference.{Station, rules_of, Offer, Served, of_tier, served, finishes, sorted, finish_after}
-use Rattle.admission.specs.Reference.{done, by_completion, control_at, decided}
+use Rattle.admission.specs.Reference.{Station, rules_of, servers_of, Offer, Served, of_tier, served, of_pool, finishes}
+use Rattle.admission.specs.Reference.{sorted, finish_in, done, by_completion, control_at, decided}
+use Rattle.admission.specs.Pools.{AreOfPool}
 use Rattle.std.specs.Ordering.{nat_cmp}
 use Rattle.std.specs.BinaryHeap.{IsHeap}
 use Rattle.std.specs.declared.cmp.Reverse.{Reverse}
@@ -56,11 +57,12 @@ finishes_in_turn free (offer ∷ offers) =
 abbrev pub offers_served : List Served → List Offer
 offers_served requests = map (λ r. r.offer) requests
 
--- the admitted requests are finished as if each was served by the first of the servers that was free
+-- the admitted requests of a pool are finished as if each was served by the first of its servers that was free
 abbrev pub FirstComeFirstServed : Type 0
-FirstComeFirstServed = (station : Station) (offers : List Offer) → 1 ≤ station.servers
-    → finishes (served (decided station offers))
-    ≡ finishes_in_turn (replicate station.servers 0) (offers_served (served (decided station offers)))
+FirstComeFirstServed = (station : Station) (offers : List Offer) (pool : ℕ) → 1 ≤ servers_of station pool
+    → finishes (of_pool pool (served (decided station offers)))
+    ≡ finishes_in_turn (replicate (servers_of station pool) 0)
+    (offers_served (of_pool pool (served (decided station offers))))
 
 -- ---- one server
 
@@ -70,11 +72,11 @@ unfoldable pub last_finish : List Offer → ℕ
 last_finish [] = 0
 last_finish (offer ∷ offers) = max (offer.tick + sum_by (λ o. o.service) (offer ∷ offers)) (last_finish offers)
 
--- the finish of a request after those that one server was offered
+-- the finish of a request in a pool of one server, after those that it was offered
 abbrev pub OneServerFinishes : Type 0
-OneServerFinishes = (station : Station) (offers : List Offer) (offer : Offer) → station.servers ≡ 1
-    → finish_after station.servers (served (decided station offers)) offer
-    ≡ last_finish (offers_served (served (decided station offers)) ++ offer ∷ [])
+OneServerFinishes = (station : Station) (offers : List Offer) (offer : Offer) → servers_of station offer.pool ≡ 1
+    → finish_in station (served (decided station offers)) offer
+    ≡ last_finish (offers_served (of_pool offer.pool (served (decided station offers))) ++ offer ∷ [])
 
 -- the admitted requests of this tier
 abbrev pub own_served : Station → List Offer → ℕ → List Served
@@ -92,8 +94,8 @@ pub record AreInOrder (rules : PolicyNumbers) (requests : List Served) (tick k :
   pub complete : done requests tick ≡ prefix_len (λ finish. nat_le finish tick) (finishes requests)
   pub instant : (control_at rules requests k).instant ≡ slice_index_or (finishes requests) (k * rules.every - 1) 0
 
--- so are the requests of a tier where there is one server and no delay
+-- so are the requests of a tier where all are of one pool of one server, and none has a delay
 abbrev pub OneServerInOrder : Type 0
-OneServerInOrder = (station : Station) (offers : List Offer) (tier tick k : ℕ)
-    → station.servers ≡ 1 → HaveNoDelay offers
+OneServerInOrder = (station : Station) (offers : List Offer) (pool tier tick k : ℕ)
+    → servers_of station pool ≡ 1 → AreOfPool pool offers → HaveNoDelay offers
     → AreInOrder (rules_of station tier) (own_served station offers tier) tick k

@@ -1,9 +1,9 @@
 -- What a contract sees of a `Controller`.
 use Rattle.std.specs.Prelude.{◌≡◌, ℕ, ◌+◌, ◌*◌, ◌<◌, ◌≤◌, List, [], ◌∷◌, length, map, Some, slice_get, nat_lt}
-use Rattle.std.specs.Prelude.{slice_index_or, ◌++◌, if◌then◌else◌}
+use Rattle.std.specs.Prelude.{slice_index_or, ◌++◌, if◌then◌else◌, All}
 use Rattle.token_bucket.specs.Standing.{MAX_TICK, MAX_RATE}
 use Rattle.admission.specs.declared.policy.PolicyNumbers.{PolicyNumbers}
-use Rattle.admission.specs.Limits.{MAX_OFFERS, MAX_SERVICE}
+use Rattle.admission.specs.Limits.{MAX_OFFERS, MAX_SERVICE, MAX_SERVERS, MAX_POOLS}
 use Rattle.admission.specs.declared.control.Control.{Control}
 use Rattle.admission.specs.Reference.{Station}
 use Rattle.circular_buffer.specs.Buffer.{keep_last}
@@ -74,12 +74,12 @@ pub record TierStanding : Type 0 where
   pub window : Window
   pub controls : List Control
 
--- the tiers; when each server is free, the first to be free first; how many requests were offered; the tick of the last
--- one, 0 before the first; and the tick up to which time has passed, which is later where no memory was left for an
--- offer
+-- the tiers; the pools, and of each when its servers are free, the first to be free first; how many requests were
+-- offered; the tick of the last one, 0 before the first; and the tick up to which time has passed, which is later where
+-- no memory was left for an offer
 pub record Standing : Type 0 where
   pub tiers : List TierStanding
-  pub servers : List ℕ
+  pub pools : List (List ℕ)
   pub offers : ℕ
   pub tick : ℕ
   pub clock : ℕ
@@ -88,9 +88,18 @@ pub record Standing : Type 0 where
 abbrev pub last_tick : Standing → ℕ
 last_tick c = c.tick
 
--- what a controller was made with: the policies in the order of their tiers, and the number of the servers
+-- what a controller was made with: the policies in the order of their tiers, and the numbers of the pools' servers
 unfoldable pub station_of : Standing → Station
-station_of c = record { policies = map (λ t. t.rules) c.tiers; servers = length c.servers }
+station_of c = record {
+  policies = map (λ t. t.rules) c.tiers;
+  pools = map (λ servers. length servers) c.pools;
+}
+
+-- a default pool and at most 16 others, each of 1 to 1,024 servers
+pub record ArePools (servers : List ℕ) : Type 0 where
+  pub default : 1 ≤ length servers
+  pub most : length servers ≤ MAX_POOLS + 1
+  pub each : All (λ n. (1 ≤ n) × (n ≤ MAX_SERVERS)) servers
 
 -- when the first server is free
 abbrev pub first_free : List ℕ → ℕ
@@ -125,18 +134,27 @@ pub record IsShare (offers tick now : ℕ) (t : TierStanding) : Type 0 where
   pub clock : t.clock ≤ now
   pub complete : AllFrom (tick + 1) (completions t.flight.responses)
 
+-- a pool has a server, and the first is free by then
+pub record IsPool (offers : ℕ) (servers : List ℕ) : Type 0 where
+  pub some : 1 ≤ length servers
+  pub free : first_free servers ≤ MAX_TICK + MAX_SERVICE * offers
+
 -- what each controller keeps, whatever was offered
 pub record IsSound (c : Standing) : Type 0 where
   pub four : length c.tiers ≡ 4
   pub offers : c.offers ≤ MAX_OFFERS
-  pub some : 1 ≤ length c.servers
-  pub free : first_free c.servers ≤ MAX_TICK + MAX_SERVICE * c.offers
+  pub default : 1 ≤ length c.pools
+  pub pools : (p : ℕ) (servers : List ℕ) → slice_get c.pools p ≡ Some servers → IsPool c.offers servers
   pub clock : (c.tick ≤ c.clock) × (c.clock ≤ MAX_TICK)
   pub tiers : (i : ℕ) (t : TierStanding) → slice_get c.tiers i ≡ Some t → IsShare c.offers c.tick c.clock t
 
 -- what is offered: one of the four tiers, a tick and a service within their limits
 abbrev pub IsOffer : ℕ → ℕ → ℕ → Type 0
 IsOffer tier tick service = (tier < 4) × (tick ≤ MAX_TICK) × (1 ≤ service) × (service ≤ MAX_SERVICE)
+
+-- there is a pool of this number
+abbrev pub HasPool : Standing → ℕ → Type 0
+HasPool c pool = pool < length (station_of c).pools
 
 -- the controller takes an offer at this tick: time has not passed beyond it, and there were fewer than the limit
 abbrev pub TakesOfferAt : Standing → ℕ → Type 0

@@ -22,13 +22,13 @@ pub enum Decision {
     Rejected,
 }
 
-/// What a request of a tier finds when it comes.
+/// What a request of a pool and a tier finds when it comes.
 #[derive(Clone, Copy, Debug, PartialEq, Eq, Hash)]
 pub struct Outlook {
     /// The credit of the tier's bucket, in units of 10^-9 token.
     pub credit: u64,
     /// The tier's rate in force, in thousandths of a token a second. That of a control at the same tick counts.
     pub rate: u64,
-    /// The tick from which on a server is free of the admitted requests of all tiers.
+    /// The tick from which on a server of the pool is free of the pool's admitted requests, of all tiers.
     pub free: u64,
 }

@@ -1,18 +1,16 @@
-//! The controller: four tiers that share the servers, offered requests in the order of their ticks.
+//! The controller: four tiers that share the pools of servers, offered requests in the order of their ticks.
 
 ghost use Rattle.std.specs.Prelude.{◌≡◌, ◌+◌, ◌*◌, ◌<◌, ◌≤◌, ◌++◌, [], ◌∷◌, ℕ, List, length, map, IfOk, OnOk, OnErr};
-ghost use Rattle.std.specs.Prelude.{count_by};
+ghost use Rattle.std.specs.Prelude.{count_by, replicate};
 ghost use Rattle.admission.specs.Reference.{Offer, of_tier, served, is_rejected, decide, decided};
 ghost use Rattle.admission.specs.After.{outlook, controls_in, all_controls, ControllerAfter, StandsAsBefore};
-ghost use Rattle.admission.specs.Standing.{last_tick, station_of, IsOffer, TakesOfferAt};
+ghost use Rattle.admission.specs.Standing.{last_tick, station_of, ArePools, HasPool, IsOffer, TakesOfferAt};
 ghost use Rattle.admission.specs.Running.{finish_or};
 ghost use Rattle.admission.specs.TierCalls.{AreNew, AllShare, AllMove, AreComplete, AllShow};
 
 use crate::servers::Servers;
 use crate::tier::Tier;
-use crate::{
-    Control, Decision, MAX_DELAY, MAX_OFFERS, MAX_SERVERS, MAX_SERVICE, MAX_TICK, Outlook, Policy,
-};
+use crate::{Control, Decision, MAX_DELAY, MAX_OFFERS, MAX_SERVICE, MAX_TICK, Outlook, Policy};
 use std::alloc::{AllocError, Global};
 use std::marker::Model;
 
@@ -20,8 +18,8 @@ use std::marker::Model;
 #[derive(Drop)]
 pub struct Controller {
     tiers: [Tier; 4],
-    /// When each server is free of the admitted requests of all tiers.
-    servers: Servers,
+    /// The servers of each pool, free of the pool's admitted requests of all tiers; the default pool first.
+    pools: Vec<Servers>,
     /// How many requests were offered, of all tiers.
     offers: u64,
     /// The tick of the last one.
@@ -37,7 +35,7 @@ impl Model for Controller {
 
     ghost view = { λ c. record {
       tiers = c.tiers;
-      servers = c.servers;
+      pools = c.pools.items;
       offers = c.offers;
       tick = c.tick;
       clock = c.clock;
@@ -45,7 +43,7 @@ impl Model for Controller {
 
     ghost invariant = { λ c. IsSound (record {
       tiers = c.tiers;
-      servers = c.servers;
+      pools = c.pools.items;
       offers = c.offers;
       tick = c.tick;
       clock = c.clock;
@@ -65,6 +63,18 @@ fn tiers_of(alloc: Global, policies: &[Policy]) -> Result<[Tier; 4], AllocError>
         Tier::new(alloc, policies[2])?,
         Tier::new(alloc, policies[3])?,
     ])
+}
+
+/// Pools of that many servers, all of which are free from tick 0 on.
+fn pools_of(alloc: Global, servers: &[u64]) -> Result<Vec<Servers>, AllocError>
+    requires { ArePools servers.now }
+    ensures { IfOk result (λ pools. pools.items ≡ map (λ n. replicate n 0) servers.now) }
+{
+    let mut pools = Vec::with_capacity(alloc, servers.len())?;
+    for count in servers {
+        pools.push(Servers::new(alloc, *count)?)?;
+    }
+    Ok(pools)
 }
 
 /// Lets time pass up to `tick` in each tier.
@@ -96,84 +106,89 @@ fn controls_of(tiers: [Tier; 4], tick: u64) -> [Vec<Control>; 4]
 }
 
 impl Controller {
-    /// A controller that was offered nothing yet, with the policies of the tiers 0 to 3 and one server.
+    /// A controller that was offered nothing yet, with the policies of the tiers 0 to 3 and one pool of one server.
     pub fn new(alloc: Global, policies: [Policy; 4]) -> Result<Self, AllocError>
         ensures fits { IfOk result (λ controller. ControllerAfter [] controller) }
         ensures station { IfOk result
-            (λ controller. station_of controller ≡ record { policies = policies; servers = 1 }) }
+            (λ controller. station_of controller ≡ record { policies = policies; pools = 1 ∷ [] }) }
         ensures start { IfOk result
             (λ controller. (controller.offers ≡ 0) × (controller.clock ≡ 0)) }
     {
-        Controller::with_servers(alloc, policies, 1)
+        Controller::with_pools(alloc, policies, &[1])
     }
 
-    /// The same with that many servers, 1 to 1,024.
-    pub fn with_servers(
+    /// The same with pools of that many servers: the default pool and at most 16 others, each of 1 to 1,024 servers.
+    pub fn with_pools(
         alloc: Global,
         policies: [Policy; 4],
-        servers: u64,
+        servers: &[u64],
     ) -> Result<Self, AllocError>
-        requires { (1 ≤ servers) × (servers ≤ MAX_SERVERS) }
+        requires { ArePools servers.now }
         ensures fits { IfOk result (λ controller. ControllerAfter [] controller) }
         ensures station { IfOk result
             (λ controller. station_of controller
-            ≡ record { policies = policies; servers = servers }) }
+            ≡ record { policies = policies; pools = servers.now }) }
         ensures start { IfOk result
             (λ controller. (controller.offers ≡ 0) × (controller.clock ≡ 0)) }
     {
         let tiers = tiers_of(alloc, &policies)?;
-        let servers = Servers::new(alloc, servers)?;
+        let pools = pools_of(alloc, servers)?;
         Ok(Controller {
             tiers,
-            servers,
+            pools,
             offers: 0,
             tick: 0,
             clock: 0,
         })
     }
 
-    /// Offers a request of a tier (0 to 3) that comes at `tick` and takes `service` ticks, without a delay.
+    /// Offers a request of a tier (0 to 3) to the default pool that comes at `tick` and takes `service` ticks, without a
+    /// delay.
     pub fn offer(&mut self, tier: u8, tick: u64, service: u64) -> Result<Decision, AllocError>
         requires offer { IsOffer tier tick service }
         requires room { TakesOfferAt self.old tick }
 
-        // As `offer_delayed`, with no delay.
+        // As `offer_to`, with no delay.
         ensures decision { IfOk result
             (λ decision. (offers : List Offer) → ControllerAfter offers self.old
             → decision ≡ decide (station_of self.old) (decided (station_of self.old) offers)
-            (record { tier = tier; tick = tick; service = service; delay = 0 })) }
+            (record { pool = 0; tier = tier; tick = tick; service = service; delay = 0 })) }
         ensures fits { OnOk result
             ((offers : List Offer) → ControllerAfter offers self.old → ControllerAfter (offers
-            ++ record { tier = tier; tick = tick; service = service; delay = 0 } ∷ []) self.new) }
+            ++ record { pool = 0; tier = tier; tick = tick; service = service; delay = 0 } ∷ [])
+            self.new) }
         ensures next { OnOk result
             ((last_tick self.new ≡ tick) × (self.new.offers ≡ self.old.offers + 1)
             × (station_of self.new ≡ station_of self.old)) }
         ensures clock { self.new.clock ≡ tick }
         ensures err { OnErr result (StandsAsBefore self.old self.new) }
     {
-        self.offer_delayed(tier, tick, service, 0)
+        let _pools = &self.pools;
+        self.offer_to(0, tier, tick, service, 0)
     }
 
-    /// Offers a request of a tier (0 to 3) that comes at `tick`, takes `service` ticks of a server, and whose response
-    /// takes `delay` ticks (0 to 1,000,000,000) beside that.
-    pub fn offer_delayed(
+    /// Offers a request of a pool and a tier (0 to 3) that comes at `tick`, takes `service` ticks of one of the pool's
+    /// servers, and whose response takes `delay` ticks (0 to 1,000,000,000) beside that.
+    pub fn offer_to(
         &mut self,
+        pool: u8,
         tier: u8,
         tick: u64,
         service: u64,
         delay: u64,
     ) -> Result<Decision, AllocError>
-        requires { IsOffer tier tick service × (delay ≤ MAX_DELAY) × TakesOfferAt self.old tick }
+        requires { IsOffer tier tick service × (delay ≤ MAX_DELAY) × HasPool self.old pool
+            × TakesOfferAt self.old tick }
 
         // The decision is that of the definitions for the offers of all tiers so far followed by this one.
         ensures decision { IfOk result
             (λ decision. (offers : List Offer) → ControllerAfter offers self.old
             → decision ≡ decide (station_of self.old) (decided (station_of self.old) offers)
-            (record { tier = tier; tick = tick; service = service; delay = delay })) }
+            (record { pool = pool; tier = tier; tick = tick; service = service; delay = delay })) }
         ensures fits { OnOk result
             ((offers : List Offer) → ControllerAfter offers self.old → ControllerAfter (offers
-            ++ record { tier = tier; tick = tick; service = service; delay = delay } ∷ [])
-            self.new) }
+            ++ record { pool = pool; tier = tier; tick = tick; service = service; delay = delay }
+            ∷ []) self.new) }
 
         // What the next offer asks.
         ensures next { OnOk result
@@ -189,9 +204,10 @@ impl Controller {
         ensures err { OnErr result (StandsAsBefore self.old self.new) }
     {
         self.pass(tick)?;
-        let free = self.servers.first();
+        let own = usize::from(pool);
+        let free = self.pools[own].first();
         let decision = self.tiers[usize::from(tier)].offer(free, tick, service, delay)?;
-        self.servers.serve(decision);
+        self.pools[own].serve(decision);
         self.offers += 1;
         self.tick = tick;
         Ok(decision)
@@ -201,7 +217,7 @@ impl Controller {
     fn pass(&mut self, tick: u64) -> Result<(), AllocError>
         requires forward { (self.old.clock ≤ tick) × (tick ≤ MAX_TICK) }
         ensures same { StandsAsBefore self.old self.new }
-        ensures servers { self.new.servers ≡ self.old.servers }
+        ensures pools { self.new.pools ≡ self.old.pools }
         ensures clock { self.new.clock ≡ tick }
         ensures complete { OnOk result (AreComplete self.new.tiers tick) }
     {
@@ -209,33 +225,35 @@ impl Controller {
         pass(&mut self.tiers, tick)
     }
 
-    /// What a request of a tier (0 to 3) finds that comes at `tick`. The next offer doesn't come before that.
-    pub fn outlook(&mut self, tier: u8, tick: u64) -> Result<Outlook, AllocError>
-        requires tier { tier < 4 }
+    /// What a request of a pool and a tier (0 to 3) finds that comes at `tick`. The next offer doesn't come before that.
+    pub fn outlook(&mut self, pool: u8, tier: u8, tick: u64) -> Result<Outlook, AllocError>
+        requires place { HasPool self.old pool × (tier < 4) }
         requires forward { (self.old.clock ≤ tick) × (tick ≤ MAX_TICK) }
         ensures finds { IfOk result
             (λ found. (offers : List Offer) → ControllerAfter offers self.old
             → found
-            ≡ outlook (station_of self.old) (decided (station_of self.old) offers) tier tick) }
+            ≡ outlook (station_of self.old) (decided (station_of self.old) offers) pool tier tick) }
         ensures range { IfOk result (λ found. found.free ≤ MAX_TICK + MAX_SERVICE * MAX_OFFERS) }
         ensures same { StandsAsBefore self.old self.new }
         ensures clock { self.new.clock ≡ tick }
     {
         self.pass(tick)?;
-        Ok(self.found_at(tier, tick))
+        Ok(self.found_at(pool, tier, tick))
     }
 
-    /// What a request of a tier (0 to 3) finds that comes at `tick`, up to which time has passed.
-    fn found_at(&self, tier: u8, tick: u64) -> Outlook
-        requires tier { tier < 4 }
+    /// What a request of a pool and a tier (0 to 3) finds that comes at `tick`, up to which time has passed.
+    fn found_at(&self, pool: u8, tier: u8, tick: u64) -> Outlook
+        requires place { HasPool self.now pool × (tier < 4) }
         requires complete { AreComplete self.now.tiers tick }
         requires clock { (self.now.clock ≡ tick) × (tick ≤ MAX_TICK) }
         ensures finds { (offers : List Offer) → ControllerAfter offers self.now
             → result
-            ≡ outlook (station_of self.now) (decided (station_of self.now) offers) tier tick }
+            ≡ outlook (station_of self.now) (decided (station_of self.now) offers) pool tier tick }
         ensures range { result.free ≤ MAX_TICK + MAX_SERVICE * MAX_OFFERS }
     {
-        self.tiers[usize::from(tier)].outlook(self.servers.first(), tick)
+        let own = usize::from(pool);
+        let free = self.pools[own].first();
+        self.tiers[usize::from(tier)].outlook(free, tick)
     }
 
     /// How many requests of a tier (0 to 3) were admitted.

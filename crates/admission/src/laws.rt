@@ -4,6 +4,7 @@ ghost use Rattle.admission.specs.Laws.{AccrualSplitsAtControl, CreditFromCredit,
 ghost use Rattle.admission.specs.Laws.{FinishRuns, FirstCredit, OtherTiersLeave, RateBefore, RateFromOffersBefore};
 ghost use Rattle.admission.specs.Laws.{RatesWithin, RejectedLeavesAll};
 ghost use Rattle.admission.specs.OneTier.{OneTierAsBefore};
+ghost use Rattle.admission.specs.Pools.{OnePoolServers, OnePoolServesAll, OtherPoolsLeave, SampleHoldsService};
 ghost use Rattle.admission.specs.Servers.{FirstComeFirstServed, OneServerFinishes, OneServerInOrder};
 
 /// A decision depends on the offers before it alone.
@@ -21,9 +22,26 @@ pub fn other_tiers_leave()
     ensures { OtherTiersLeave }
 {}
 
-/// Offers of tier 0 alone are decided as they were where there was one policy and no tiers.
+/// Offers of tier 0 and of the default pool alone are decided as they were where there was one policy and one set of
+/// servers.
 pub fn one_tier_as_before()
     ensures { OneTierAsBefore }
+{}
+
+/// Where all offers are of one pool, its servers work on all admitted requests.
+pub fn one_pool_serves_all()
+    ensures servers { OnePoolServers }
+    ensures all { OnePoolServesAll }
+{}
+
+/// An offer of another pool changes no finish in a pool.
+pub fn other_pools_leave()
+    ensures { OtherPoolsLeave }
+{}
+
+/// A response never takes less than its service.
+pub fn sample_holds_service()
+    ensures { SampleHoldsService }
 {}
 
 /// Every rate in force lies between the policy's least and greatest.
@@ -31,7 +49,7 @@ pub fn rates_within()
     ensures { RatesWithin }
 {}
 
-/// The finish of one server can be carried from request to request over all tiers, and never falls.
+/// The finish of one server can be carried from request to request of its pool over all tiers, and never falls.
 pub fn finish_runs()
     ensures { FinishRuns }
 {}
@@ -41,8 +59,8 @@ pub fn rate_before()
     ensures { RateBefore }
 {}
 
-/// Where there is one server, each admitted request is finished its service after the later of its arrival and the
-/// finish of the one before it.
+/// Where a pool has one server, each admitted request of it is finished its service after the later of its arrival and
+/// the finish of the pool's one before it.
 pub fn finish_from_finish()
     ensures { FinishFromFinish }
 {}
@@ -68,19 +86,20 @@ pub fn rate_from_offers_before()
     ensures { RateFromOffersBefore }
 {}
 
-/// The finishes are those of servers one by one, each request served by the first that is free.
+/// The finishes of a pool are those of its servers one by one, each request served by the first that is free.
 pub fn first_come_first_served()
     ensures { FirstComeFirstServed }
 {}
 
-/// Where there is one server, a finish is the greatest, over the admitted requests so far, of its arrival and the
-/// services from it on.
+/// Where a pool has one server, a finish is the greatest, over the pool's admitted requests so far, of its arrival and
+/// the services from it on.
 pub fn one_server_finishes()
     ensures { OneServerFinishes }
 {}
 
-/// Where there is one server and no delay, the responses of a tier are complete in the order of its requests: a control
-/// stands at the finish of its last request, and the rate in force is by how many of the first are finished.
+/// Where all requests are of one pool of one server and have no delay, the responses of a tier are complete in the order
+/// of its requests: a control stands at the finish of its last request, and the rate in force is by how many of the
+/// first are finished.
 pub fn one_server_in_order()
     ensures { OneServerInOrder }
 {}

@@ -1,10 +1,10 @@
 //! Adaptive admission control on virtual time.
 //!
-//! One virtual server, or several side by side, take the admitted requests of four tiers in their order. Each tier has
-//! a policy and a token bucket of its own. At every n of its responses, in the order in which they are complete, a
-//! control compares the smoothed 90th percentile of the response times with a target, and raises the rate of its bucket
-//! by addition or lowers it by division. A request is admitted where the bucket of its tier has a token when it is
-//! offered. All times are ticks of one microsecond.
+//! Pools of virtual servers take the admitted requests of four tiers in their order, each request in its pool alone.
+//! Each tier has a policy and a token bucket of its own. At every n of its responses, in the order in which they are
+//! complete, a control compares the smoothed 90th percentile of the response times with a target, and raises the rate
+//! of its bucket by addition or lowers it by division. A request is admitted where the bucket of its tier has a token
+//! when it is offered. All times are ticks of one microsecond.
 #![tactic(auto)]
 
 mod control;
@@ -42,8 +42,11 @@ pub const MAX_TARGET: u64 = 1_000_000_000_000;
 /// The longest service, in ticks.
 pub const MAX_SERVICE: u64 = 20_000_000_000;
 
-/// The most servers.
+/// The most servers of a pool.
 pub const MAX_SERVERS: u64 = 1024;
+
+/// The most pools beside the default one.
+pub const MAX_POOLS: u64 = 16;
 
 /// The longest delay of a response beside its service, in ticks.
 pub const MAX_DELAY: u64 = 1_000_000_000;

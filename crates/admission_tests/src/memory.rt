@@ -41,13 +41,13 @@ fn each_growth_of_servers_refused(rt: HostRuntime) {
     let policy = Policy::new(2, 1, 700, 1000, 500, 2000, 10, 120, 1000, 90, 10).expect(
         &rt, "a policy",
     );
-    let Ok(mut controller) = Controller::with_servers(rt.alloc(), [policy; 4], 3) else {
+    let Ok(mut controller) = Controller::with_pools(rt.alloc(), [policy; 4], &[3]) else {
         return;
     };
     for place in 0..6u64 {
-        let answer = match controller.offer_delayed(0, 0, 5, 7) {
+        let answer = match controller.offer_to(0, 0, 0, 5, 7) {
             Ok(decision) => Ok(decision),
-            Err(_) => controller.offer_delayed(0, 0, 5, 7),
+            Err(_) => controller.offer_to(0, 0, 0, 5, 7),
         };
         let Ok(decision) = answer else {
             return;
@@ -78,9 +78,9 @@ fn each_growth_refused_while_time_passes(rt: HostRuntime) {
             return;
         }
     }
-    let answer = match controller.outlook(0, 6000) {
+    let answer = match controller.outlook(0, 0, 6000) {
         Ok(found) => Ok(found),
-        Err(_) => controller.outlook(0, 6000),
+        Err(_) => controller.outlook(0, 0, 6000),
     };
     let Ok(found) = answer else {
         return;

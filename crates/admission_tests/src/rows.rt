@@ -138,7 +138,7 @@ fn three_requests_on_two_servers(rt: HostRuntime) -> Result<(), Fail> {
     let policy = Policy::new(1, 1, 700, 1000, 500, 2000, 10, 120, 1000, 90, 10).expect(
         &rt, "a policy",
     );
-    let mut controller = Controller::with_servers(rt.alloc(), [policy; 4], 2)?;
+    let mut controller = Controller::with_pools(rt.alloc(), [policy; 4], &[2])?;
     assert_eq!(rt;
         controller.offer(0, 0, 9)?,
         Decision::Admitted { finish: 9 }
@@ -156,13 +156,13 @@ fn three_requests_on_two_servers(rt: HostRuntime) -> Result<(), Fail> {
         rate: 1020,
         free: 8,
     };
-    assert_eq!(rt; controller.outlook(0, 8)?, before);
+    assert_eq!(rt; controller.outlook(0, 0, 8)?, before);
     let at = Outlook {
         credit: 7_000_009_050,
         rate: 1030,
         free: 8,
     };
-    assert_eq!(rt; controller.outlook(0, 9)?, at);
+    assert_eq!(rt; controller.outlook(0, 0, 9)?, at);
     assert_eq!(rt;
         controller.offer(1, 20, 1)?,
         Decision::Admitted { finish: 21 }
@@ -183,7 +183,7 @@ fn a_long_request_stops_no_control(rt: HostRuntime) -> Result<(), Fail> {
     let policy = Policy::new(1, 1, 0, 1000, 500, 2000, 10, 120, 1000, 90, 10).expect(
         &rt, "a policy",
     );
-    let mut controller = Controller::with_servers(rt.alloc(), [policy; 4], 3)?;
+    let mut controller = Controller::with_pools(rt.alloc(), [policy; 4], &[3])?;
     assert_eq!(rt;
         controller.offer(0, 0, 2000)?,
         Decision::Admitted { finish: 2000 }
@@ -226,10 +226,10 @@ fn two_are_complete_at_one_tick(rt: HostRuntime) -> Result<(), Fail> {
     let policy = Policy::new(1, 1, 0, 1000, 500, 2000, 10, 120, 1000, 90, 10).expect(
         &rt, "a policy",
     );
-    let mut controller = Controller::with_servers(rt.alloc(), [policy; 4], 2)?;
+    let mut controller = Controller::with_pools(rt.alloc(), [policy; 4], &[2])?;
     // the first one's server is free at tick 4, and its response is complete at tick 9
     assert_eq!(rt;
-        controller.offer_delayed(0, 0, 4, 5)?,
+        controller.offer_to(0, 0, 0, 4, 5)?,
         Decision::Admitted { finish: 4 }
     );
     assert_eq!(rt;
@@ -254,11 +254,11 @@ fn a_delay_lowers_the_rate(rt: HostRuntime) -> Result<(), Fail> {
     );
     let mut controller = Controller::new(rt.alloc(), [policy; 4])?;
     assert_eq!(rt;
-        controller.offer_delayed(0, 0, 100, 5000)?,
+        controller.offer_to(0, 0, 0, 100, 5000)?,
         Decision::Admitted { finish: 100 }
     );
     assert_eq!(rt;
-        controller.offer_delayed(0, 0, 100, 5000)?,
+        controller.offer_to(0, 0, 0, 100, 5000)?,
         Decision::Admitted { finish: 200 }
     );
     assert_eq!(rt;
@@ -288,10 +288,10 @@ fn the_most_servers(rt: HostRuntime) -> Result<(), Fail> {
     let policy = Policy::new(1, 1, 0, 1000, 1000, 1000, 0, 120, 1000, 90, 2000).expect(
         &rt, "a policy",
     );
-    let mut controller = Controller::with_servers(rt.alloc(), [policy; 4], 1024)?;
+    let mut controller = Controller::with_pools(rt.alloc(), [policy; 4], &[1024])?;
     for j in 0..1024u64 {
         assert_eq!(rt;
-            controller.offer_delayed(0, 0, 2000 - j, 1_000_000_000)?,
+            controller.offer_to(0, 0, 0, 2000 - j, 1_000_000_000)?,
             Decision::Admitted { finish: 2000 - j }
         );
     }
@@ -303,5 +303,38 @@ fn the_most_servers(rt: HostRuntime) -> Result<(), Fail> {
         controller.offer(0, 979, 1)?,
         Decision::Admitted { finish: 980 }
     );
+    Ok(())
+}
+
+/// A request waits for the servers of its own pool alone: pool 1, of one server, works on the first request up to tick
+/// 1,000, and then on the third up to 2,000. The others don't wait for that: pool 0 has two servers.
+#[test]
+fn pools_apart(rt: HostRuntime) -> Result<(), Fail> {
+    let policy = Policy::new(1, 1, 700, 1000, 500, 2000, 10, 120, 1000, 90, 10).expect(
+        &rt, "a policy",
+    );
+    let mut controller = Controller::with_pools(rt.alloc(), [policy; 4], &[2, 1])?;
+    assert_eq!(rt;
+        controller.offer_to(1, 0, 0, 1000, 0)?,
+        Decision::Admitted { finish: 1000 }
+    );
+    assert_eq!(rt;
+        controller.offer_to(0, 0, 1, 4, 0)?,
+        Decision::Admitted { finish: 5 }
+    );
+    assert_eq!(rt;
+        controller.offer_to(1, 1, 2, 1000, 0)?,
+        Decision::Admitted { finish: 2000 }
+    );
+    assert_eq!(rt;
+        controller.offer_to(0, 1, 3, 4, 0)?,
+        Decision::Admitted { finish: 7 }
+    );
+    assert_eq!(rt;
+        controller.offer_to(0, 2, 4, 4, 0)?,
+        Decision::Admitted { finish: 9 }
+    );
+    assert_eq!(rt; controller.outlook(0, 0, 5)?.free, 7);
+    assert_eq!(rt; controller.outlook(1, 0, 5)?.free, 2000);
     Ok(())
 }

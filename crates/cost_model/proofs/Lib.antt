@@ -1,1 +1,2 @@
 mod OnRoutes
+pub mod OnPools

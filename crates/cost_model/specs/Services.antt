@@ -1,13 +1,13 @@
 -- How long the virtual server works on a request, in ticks of one microsecond.
 use Rattle.std.specs.Prelude.{ℕ, ◌≤◌, ◌&&◌, Bool, nat_le, ◌-◌, ◌==◌, List, [], ◌∷◌, Option, Some, None, codes, length}
-use Rattle.std.specs.Prelude.{nat_eq, take, if◌then◌else◌}
-use Rattle.cost_model.specs.Reference.{CostTable}
+use Rattle.std.specs.Prelude.{nat_eq, take, All, if◌then◌else◌}
+use Rattle.cost_model.specs.Reference.{CostTable, Route}
 use Rattle.std.specs.List.{ends_with, list_all, slice_split}
 use Rattle.paths.specs.Reference.{slash}
 use Rattle.paths.specs.Snapshots.{is_part}
 
--- the greatest of the three costs, the most servers, the longest delay, the greatest cost of a route and the most
--- routes; the code has constants of these names
+-- the greatest of the three costs, the most servers, the longest delay, the greatest cost of a route, the most routes,
+-- and the most pools besides pool 0; the code has constants of these names
 abbrev pub MAX_COST : ℕ
 MAX_COST = 1000000
 
@@ -23,6 +23,9 @@ MAX_ROUTE_COST = 1000000000
 abbrev pub MAX_ROUTES : ℕ
 MAX_ROUTES = 64
 
+abbrev pub MAX_POOLS : ℕ
+MAX_POOLS = 16
+
 abbrev pub is_in_range : CostTable → Bool
 is_in_range costs =
     nat_le 1 costs.file && nat_le costs.file MAX_COST
@@ -32,10 +35,20 @@ is_in_range costs =
     && nat_le costs.delay MAX_DELAY
 
 -- the numbers of a route are in their ranges
-pub record IsRoute (cost kib delay : ℕ) : Type 0 where
+pub record IsRoute (cost kib delay pool : ℕ) : Type 0 where
   pub costs : (1 ≤ cost) × (cost ≤ MAX_ROUTE_COST)
   pub kibs : kib ≤ MAX_COST
   pub delays : delay ≤ MAX_DELAY
+  pub pools : pool ≤ MAX_POOLS
+
+-- the pools from 1 on: at most 16, each of 1 to 1,024 servers
+pub record ArePools (pools : List ℕ) : Type 0 where
+  pub few : length pools ≤ MAX_POOLS
+  pub each : All (λ servers. (1 ≤ servers) × (servers ≤ MAX_SERVERS)) pools
+
+-- each route names a pool that is there
+abbrev pub AreServed : List Route → List ℕ → Type 0
+AreServed routes pools = All (λ route. route.pool ≤ length pools) routes
 
 -- The most ticks that a service takes: on a route at most 1,000,000,000 and 16,384 KiB at 1,000,000 each, and less on
 -- none.

@@ -4,11 +4,13 @@
 
 mod charge;
 mod costs;
+mod pools;
 mod prefix;
 mod routes;
 
 pub use charge::{Charge, Tariff};
 pub use costs::{CostFault, Costs, service};
+pub use pools::Pools;
 pub use prefix::Prefix;
 pub use routes::{Route, Routes};
 
@@ -26,3 +28,6 @@ pub const MAX_ROUTE_COST: u64 = 1_000_000_000;
 
 /// The most routes.
 pub const MAX_ROUTES: usize = 64;
+
+/// The most pools besides pool 0.
+pub const MAX_POOLS: usize = 16;

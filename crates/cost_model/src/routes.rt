@@ -6,7 +6,7 @@ ghost use Rattle.std.specs.Option.{option_map};
 ghost use Rattle.paths.specs.Reference.{asked};
 ghost use Rattle.paths.specs.Snapshots.{max_file_bytes};
 ghost use Rattle.cost_model.specs.Reference.{bytes_cost, route_of};
-ghost use Rattle.cost_model.specs.Services.{IsRoute, longest_service};
+ghost use Rattle.cost_model.specs.Services.{IsRoute, MAX_POOLS, longest_service};
 
 use crate::{MAX_DELAY, MAX_ROUTES, Prefix};
 use devices::Bytes;
@@ -22,6 +22,7 @@ pub struct Route {
     cost: u64,
     kib: u64,
     delay: u64,
+    pool: u8,
 }
 
 impl Model for Route {
@@ -30,24 +31,35 @@ impl Model for Route {
 
     ghost Value = { RouteRow };
 
-    ghost view = { λ r. record { prefix = r.prefix; cost = r.cost; kib = r.kib; delay = r.delay } };
+    ghost view = { λ r. record { prefix = r.prefix; cost = r.cost; kib = r.kib; delay = r.delay; pool = r.pool } };
 
-    ghost invariant = { λ r. IsRoute r.cost r.kib r.delay };
+    ghost invariant = { λ r. IsRoute r.cost r.kib r.delay r.pool };
 }
 
 impl Route {
     /// The route of this prefix: a request costs 1 to 1,000,000,000 ticks, each 1,024 bytes that are given besides 0 to
-    /// 1,000,000, and its response takes 0 to 1,000,000,000 beside that.
-    pub fn in_range(prefix: Prefix, cost: u64, kib: u64, delay: u64) -> Route
-        requires { IsRoute cost kib delay }
-        ensures { result ≡ record { prefix = prefix; cost = cost; kib = kib; delay = delay } }
+    /// 1,000,000, and its response takes 0 to 1,000,000,000 beside that. The servers of this pool work on it (0 to 16;
+    /// pool 0 has those of the table).
+    pub fn in_range(prefix: Prefix, cost: u64, kib: u64, delay: u64, pool: u8) -> Route
+        requires { IsRoute cost kib delay pool }
+        ensures { result
+            ≡ record { prefix = prefix; cost = cost; kib = kib; delay = delay; pool = pool } }
     {
         Route {
             prefix,
             cost,
             kib,
             delay,
+            pool,
         }
+    }
+
+    /// The number of the pool whose servers work on its requests, 0 to 16.
+    pub fn pool(&self) -> u8
+        ensures pool { result ≡ self.now.pool }
+        ensures range { result ≤ MAX_POOLS }
+    {
+        self.pool
     }
 
     /// Whether a path is on it.

@@ -1,7 +1,7 @@
 -- A table of decisions: a heading, and a row for each message. Fields stand between commas, and none holds a comma, a
 -- quote or the end of a line (RFC 4180, 2), nor a semicolon, at which spreadsheets of many countries part cells. No
 -- cell begins as a formula does there.
-use Rattle.std.specs.Prelude.{ℕ, ◌-◌, ◌==◌, ◌&&◌, ◌||◌, not, Bool, List, [], ◌∷◌, ◌++◌, Option, Some, None, codes}
+use Rattle.std.specs.Prelude.{ℕ, ◌-◌, ◌==◌, ◌&&◌, ◌||◌, not, Bool, true, false, List, [], ◌∷◌, ◌++◌, Option, Some, None, codes}
 use Rattle.std.specs.Prelude.{decimal, flat_map, if◌then◌else◌}
 use Rattle.std.specs.Char.{is_ascii_graphic}
 use Rattle.percent_encoding.specs.Percent.{percent_encode_byte}
@@ -12,8 +12,12 @@ use Rattle.admission.specs.declared.control.Decision.TheVariants.{Admitted, Reje
 use Rattle.decision_table.specs.declared.row.Offered.{Offered}
 use Rattle.decision_table.specs.declared.row.Row.{Row}
 
-abbrev pub heading : List ℕ
-heading = codes "number,connection,tick,tier,status,decision,service,credit,rate,start,finish,waited,method,target\n"
+-- with a column of pools, or without one
+abbrev pub heading : Bool → List ℕ
+heading false =
+    codes "number,connection,tick,tier,status,decision,service,credit,rate,start,finish,waited,method,target\n"
+heading true =
+    codes "number,connection,tick,tier,status,decision,service,credit,rate,start,finish,waited,pool,method,target\n"
 
 abbrev pub number_field : ℕ → List ℕ
 number_field n = decimal n ++ codes ","
@@ -37,10 +41,16 @@ offered_fields tick None = codes "bypassed,,,,,,,"
 offered_fields tick (Some o) = decision_field o.decision ++ found_fields o ++ service_fields o.service o.decision
     ++ number_field (o.found.free - tick)
 
+-- the pool that a request is of, where there is such a column
+abbrev pub pool_field : Bool → Option Offered → List ℕ
+pool_field false o = []
+pool_field true None = codes ","
+pool_field true (Some o) = number_field o.pool
+
 -- a row up to its method
 abbrev pub row_line : Row → List ℕ
 row_line row = number_field row.number ++ number_field row.conn ++ number_field row.tick ++ number_field row.tier
-    ++ number_field row.status ++ offered_fields row.tick row.offered
+    ++ number_field row.status ++ offered_fields row.tick row.offered ++ pool_field row.pools row.offered
 
 abbrev pub plus_sign : ℕ
 plus_sign = 43

@@ -3,19 +3,19 @@
 ghost use Rattle.std.specs.Prelude.{◌≡◌, ◌≤◌, ◌+◌, ◌++◌, length};
 ghost use Rattle.arrayvec.specs.ArrayVec.{array_vec_len};
 ghost use Rattle.decision_table.specs.Rows.{number_field, row_line, offered_fields, decision_field, found_fields};
-ghost use Rattle.decision_table.specs.Rows.{service_fields};
+ghost use Rattle.decision_table.specs.Rows.{pool_field, service_fields};
 
 use crate::{Offered, Row};
 use admission::Decision;
 use arrayvec::ArrayVec;
 use itoa::Buffer;
 
-/// Room for a word and eleven numbers of 64 bits, each with a comma after it.
-pub(crate) type Line = ArrayVec<u8, 256>;
+/// Room for a word and twelve numbers of 64 bits, each with a comma after it.
+pub(crate) type Line = ArrayVec<u8, 264>;
 
 /// Adds a number and a comma.
 fn push_number(line: &mut Line, number: u64)
-    requires { array_vec_len line.old ≤ 235 }
+    requires { array_vec_len line.old ≤ 243 }
     ensures text { line.new.items ≡ line.old.items ++ number_field number }
     ensures len { array_vec_len line.new ≤ array_vec_len line.old + 21 }
 {
@@ -61,7 +61,8 @@ fn push_service(line: &mut Line, offered: Offered)
 /// Adds what became of a message that came at this tick.
 fn push_offered(line: &mut Line, tick: u64, offered: Option<Offered>)
     requires { array_vec_len line.old ≤ 105 }
-    ensures { line.new.items ≡ line.old.items ++ offered_fields tick offered }
+    ensures text { line.new.items ≡ line.old.items ++ offered_fields tick offered }
+    ensures len { array_vec_len line.new ≤ array_vec_len line.old + 135 }
 {
     let Some(offered) = offered else {
         line.try_extend_from_slice(b"bypassed,,,,,,,").unwrap();
@@ -70,6 +71,19 @@ fn push_offered(line: &mut Line, tick: u64, offered: Option<Offered>)
     push_found(line, offered);
     push_service(line, offered);
     push_number(line, offered.found.free.saturating_sub(tick));
+}
+
+/// Adds the pool that a request is of, where there is such a column.
+fn push_pool(line: &mut Line, pools: bool, offered: Option<Offered>)
+    requires { array_vec_len line.old ≤ 243 }
+    ensures { line.new.items ≡ line.old.items ++ pool_field pools offered }
+{
+    if pools {
+        match offered {
+            Some(offered) => push_number(line, u64::from(offered.pool)),
+            None => line.push(b','),
+        }
+    }
 }
 
 /// The fields of a row, up to the comma before its method.
@@ -83,5 +97,6 @@ pub(crate) fn row_line(row: &Row) -> Line
     push_number(&mut line, u64::from(row.tier));
     push_number(&mut line, u64::from(row.status));
     push_offered(&mut line, row.tick, row.offered);
+    push_pool(&mut line, row.pools, row.offered);
     line
 }

@@ -7,6 +7,8 @@ use admission::{Decision, Outlook};
 pub struct Offered {
     /// How long the server works on it, in ticks.
     pub service: u64,
+    /// The number of the pool whose servers work on it.
+    pub pool: u8,
     /// What it found when it came.
     pub found: Outlook,
     pub decision: Decision,
@@ -24,6 +26,8 @@ pub struct Row {
     pub tier: u8,
     /// The status of its reply.
     pub status: u16,
+    /// Whether the table has a column of pools.
+    pub pools: bool,
     /// None where the message breaks a rule of HTTP, and so is no request.
     pub offered: Option<Offered>,
 }

@@ -10,15 +10,25 @@ use crate::text::write_text;
 use devices::{Failed, Output};
 use std::io::Write;
 
-/// Writes the heading. At an `Err` the writer failed in this call, and a prefix of the heading stands there.
-pub fn write_heading<W: Write>(output: &mut Output<W>) -> Result<(), Failed>
+/// The heading, with a column of pools or without one.
+fn heading(pools: bool) -> &'static [u8]
+    ensures { result.now ≡ heading pools }
+{
+    if pools {
+        b"number,connection,tick,tier,status,decision,service,credit,rate,start,finish,waited,pool,method,target\n"
+    } else {
+        b"number,connection,tick,tier,status,decision,service,credit,rate,start,finish,waited,method,target\n"
+    }
+}
+
+/// Writes the heading, with a column of pools or without one. At an `Err` the writer failed in this call, and a prefix
+/// of the heading stands there.
+pub fn write_heading<W: Write>(output: &mut Output<W>, pools: bool) -> Result<(), Failed>
     requires { CanFail output.old }
-    ensures prefix { WritesProperPrefix output.old.bytes output.new.bytes result heading }
+    ensures prefix { WritesProperPrefix output.old.bytes output.new.bytes result (heading pools) }
     ensures count { CountsFailed output.old.failures output.new.failures result }
 {
-    output.write_all(
-        b"number,connection,tick,tier,status,decision,service,credit,rate,start,finish,waited,method,target\n",
-    )
+    output.write_all(heading(pools))
 }
 
 /// Writes the row of a message with this method and target, both empty where it breaks a rule of HTTP. It takes no

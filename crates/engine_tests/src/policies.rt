@@ -1,6 +1,6 @@
 //! Service times, policies and routes.
 use admission::Policy;
-use cost_model::{Costs, Prefix, Route, Routes};
+use cost_model::{Costs, Pools, Prefix, Route, Routes};
 use replay::Settings;
 use std::alloc::Global;
 
@@ -35,14 +35,17 @@ pub fn nimble(depth: u64) -> Option<Policy> {
     Policy::new(1, 1, 700, 1000, 500, 2000, 10, 120, 1000, 90, depth).ok()
 }
 
-/// These settings with a route in front of the file: 2,000 ticks, 100 for each 1,024 bytes, and a delay of 3.
+/// These settings with a route in front of the file: 2,000 ticks of a pool of two servers, 100 for each 1,024 bytes, and
+/// a delay of 3.
 pub fn routed(alloc: Global, settings: Box<Settings>) -> Option<Box<Settings>> {
     let prefix = Prefix::read(alloc, b"/a.txt").ok()??;
     let mut routes = Vec::new(alloc);
-    routes.push(Route::in_range(prefix, 2000, 100, 3)).ok()?;
+    routes.push(Route::in_range(prefix, 2000, 100, 3, 1)).ok()?;
+    let mut servers = Vec::new(alloc);
+    servers.push(2).ok()?;
     Box::new(
         alloc,
-        Box::into_inner(settings).with_routes(Routes::new(routes)),
+        Box::into_inner(settings).with_routes(Routes::new(routes), Pools::new(servers)),
     )
     .ok()
 }

@@ -14,7 +14,7 @@ use Rattle.responses.specs.declared.slip.Slip.{Slip}
 use Rattle.arrivals.specs.Reference.{Arrival}
 use Rattle.decision_table.specs.Rows.{heading, row_text}
 use Rattle.reference.specs.Reference.{Terms, station_for, tick_in, is_head, answers_head, persistence_of, given, charge_of, Handled, offer_at, offers_of, rejects, handled_next, handled_after, handled, slip_of, reply_of, replies_of, rejected_of, status_for, count_of, bypassed_of, breaks_a_rule, summary_of, samples_of, tallies_of}
-use Rattle.reference.specs.Explaining.{first_offered, row_after, rows_after, method_of, target_of}
+use Rattle.reference.specs.Explaining.{has_pools, first_offered, row_after, rows_after, method_of, target_of}
 use Rattle.reference.specs.Choices.{at_speed}
 use Rattle.reference.specs.Laws.{hurried, SpeedDividesTicks}
 use Rattle.paths.specs.declared.file.File.{File}
@@ -29,7 +29,7 @@ tick_same t a = mul-div_cancel (a.origin.tick * 100 / t.speed) (omega arith)
 offer_same : (files : List File) (t : Terms) (a : Arrival) (what : Meaning) → offer_at files (at_speed 100 t) (hurried t.speed a).origin what ≡ offer_at files t a.origin what
 offer_same files t a (Request method target version closing since) =
     let cost = charge_of files t target (is_head method) since (outcome files (asked method target)) in
-    λ i. record { tier = a.origin.tier; tick = tick_same t a i; service = cost.service; delay = cost.delay } ∷ []
+    λ i. record { pool = cost.pool; tier = a.origin.tier; tick = tick_same t a i; service = cost.service; delay = cost.delay } ∷ []
 offer_same files t a (Bad fault) = refl
 
 offers_same : (files : List File) (t : Terms) (xs : List Arrival) → offers_of files (at_speed 100 t) (map (hurried t.speed) xs) ≡ offers_of files t xs
@@ -113,7 +113,8 @@ first_same : (files : List File) (t : Terms) (earlier : List Arrival) (offers : 
 first_same files t earlier [] = refl
 first_same files t earlier (o ∷ offers) = λ i. Some (record {
   service = o.service;
-  found = outlook (station_for t) (decided (station_for t) (offers_same files t earlier i)) o.tier o.tick;
+  pool = o.pool;
+  found = outlook (station_for t) (decided (station_for t) (offers_same files t earlier i)) o.pool o.tier o.tick;
   decision = decide (station_for t) (decided (station_for t) (offers_same files t earlier i)) o;
 })
 
@@ -125,6 +126,7 @@ row_same files t earlier a = λ i. row_text (record {
   tick = tick_same t a i;
   tier = a.origin.tier;
   status = status_for files (at_speed 100 t) (next_same files t earlier a i);
+  pools = has_pools t;
   offered = (ap (first_offered files (at_speed 100 t) (map (hurried t.speed) earlier)) (offer_same files t a a.message.what) ∙ first_same files t earlier (offer_at files t a.origin a.message.what)) i;
 }) (method_of a.message.what) (target_of a.message.what)
 
@@ -142,5 +144,5 @@ by_speed files t start xs =
       sym (ap (replies_of files (at_speed 100 t) start) hs ∙ replies_same files t start (handled files t xs)),
       sym (ap rejected_of hs ∙ rejected_same t.speed (handled files t xs)),
       sym (summary_same files t xs),
-      sym (ap (λ r. heading ++ r) (rows_same files t [] xs)),
+      sym (ap (λ r. heading (has_pools t) ++ r) (rows_same files t [] xs)),
     )

@@ -11,7 +11,7 @@ use Rattle.arrivals.specs.Reference.{Arrival}
 use Rattle.arrivals.specs.declared.incoming.Origin.{Origin}
 use Rattle.decision_table.specs.Rows.{heading, row_text}
 use Rattle.reference.specs.Reference.{Terms, station_for, tick_in, Handled, offer_at, offers_of, rejects, handled_next, handled_after, handled, reply_of, replies_of, rejected_of, status_for, count_of, bypassed_of, breaks_a_rule, summary_of, samples_of, tallies_of}
-use Rattle.reference.specs.Explaining.{first_offered, row_after, rows_after, table, method_of, target_of}
+use Rattle.reference.specs.Explaining.{has_pools, first_offered, row_after, rows_after, table, method_of, target_of}
 use Rattle.reference.specs.Laws.{asked_by, AnswersByMeaning}
 use Rattle.paths.specs.declared.file.File.{File}
 
@@ -101,7 +101,8 @@ first_normal : (files : List File) (t : Terms) (earlier : List Arrival) (offers 
 first_normal files t earlier [] = refl
 first_normal files t earlier (o ∷ offers) = λ i. Some (record {
   service = o.service;
-  found = outlook (station_for t) (decided (station_for t) (offers_normal files t earlier i)) o.tier o.tick;
+  pool = o.pool;
+  found = outlook (station_for t) (decided (station_for t) (offers_normal files t earlier i)) o.pool o.tier o.tick;
   decision = decide (station_for t) (decided (station_for t) (offers_normal files t earlier i)) o;
 })
 
@@ -113,6 +114,7 @@ row_normal files t earlier a = λ i. row_text (record {
   tick = tick_in t a.origin;
   tier = a.origin.tier;
   status = status_for files t (next_normal files t earlier a i);
+  pools = has_pools t;
   offered = first_normal files t earlier (offer_at files t a.origin a.message.what) i;
 }) (method_of a.message.what) (target_of a.message.what)
 
@@ -132,5 +134,5 @@ by_meaning files t start xs ys same =
       sym (replies_normal files t start (handled files t xs)) ∙ ap (replies_of files t start) (sym hx ∙ ap (handled files t) n ∙ hy) ∙ replies_normal files t start (handled files t ys),
       sym (rejected_normal (handled files t xs)) ∙ ap rejected_of (sym hx ∙ ap (handled files t) n ∙ hy) ∙ rejected_normal (handled files t ys),
       sym (summary_normal files t xs) ∙ ap (summary_of files t) n ∙ summary_normal files t ys,
-      sym (ap (λ r. heading ++ r) (rows_normal files t [] xs)) ∙ ap (table files t) n ∙ ap (λ r. heading ++ r) (rows_normal files t [] ys),
+      sym (ap (λ r. heading (has_pools t) ++ r) (rows_normal files t [] xs)) ∙ ap (table files t) n ∙ ap (λ r. heading (has_pools t) ++ r) (rows_normal files t [] ys),
     )

@@ -1,638 +1,463 @@
 -- A capture of version 1 is answered as before there were tiers, and its upgraded text as it is.
-use Rattle.std.proofs.Common.{◌≡◌, ℕ, suc, ◌+◌, ◌-◌, ◌≤◌, ◌==◌, ◌||◌, Bool, true, false, cond, List, [], ◌∷◌, ◌++◌, length, map, take, get_or, Option, Some, unwrap_or, refl, sym, ap, ◌∙◌, subst, arith, All, append-nil, append_assoc}
-use Rattle.std.specs.List.{list_any, filter, range_with_len, AllPairs}
-use Rattle.std.specs.Prelude.{count_by, nat_le, slice_get}
+use Rattle.std.proofs.Common.{◌≡◌, ℕ, ◌+◌, ◌-◌, ◌*◌, ◌/◌, ◌≤◌, ◌||◌, max, Bool, List, [], ◌∷◌, ◌++◌, length, map, take, get_or, Option, None, Some, refl, sym, ap, ◌∙◌, subst, arith, All, append-nil, append_assoc}
+use Rattle.std.specs.List.{list_any, filter, range_with_len}
+use Rattle.std.specs.Prelude.{nat_le, codes, if◌then◌else◌}
 use Rattle.std.specs.Io.KnownBytes.{Appends}
-use Rattle.std.proofs.Math.Nat.{zero-div}
-use Rattle.std.proofs.lemmas.Grind.{flat_map-append}
-use Rattle.std.proofs.lemmas.List.{length-map, map-append}
-use Rattle.std.proofs.lemmas.List.Kept.{AllPairs-cons}
-use Rattle.std.proofs.lemmas.List.Sums.{sum_by_push, sum_by-cons}
-use Rattle.std.proofs.lemmas.List.Elements.{All-nil, All-head, All-tail, All-take, All-push, All-map}
+use Rattle.std.proofs.Math.Nat.{zero-div, mul-div_cancel}
+use Rattle.std.proofs.lemmas.List.{length-map, length-append, map-append}
+use Rattle.std.proofs.lemmas.List.Elements.{All-nil, All-head, All-tail, All-take, All-push}
 use Rattle.http_requests.specs.declared.messages.Meaning.{Meaning}
 use Rattle.http_requests.specs.declared.messages.Meaning.TheVariants.{Request, Bad}
 use Rattle.captures.specs.declared.record.Record.{Record}
-use Rattle.captures.specs.declared.record.Record.TheVariants.{Piece}
 use Rattle.captures.specs.declared.version.Version.{Version}
 use Rattle.captures.specs.declared.version.Version.TheVariants.{One, Two}
-use Rattle.captures.specs.Reference.{format_of, named_by, used_once, IsRecord, IsCapture, IsCaptureText}
+use Rattle.captures.specs.Reference.{format_of, used_once, IsRecord, IsCapture, IsCaptureText}
 use Rattle.captures.specs.Upgrades.{later, upgraded}
-use Rattle.captures.proofs.Lives.{all_low, piece_low}
 use Rattle.captures.proofs.Agree.{one_list}
 use Rattle.captures.proofs.Tiers.{tiers_of_version_one}
 use Rattle.captures.proofs.UpgradeLaws.{upgrade_is, numbers_once, more_messages}
-use Rattle.http_requests.specs.Reference.{MessagesOf}
+use Rattle.cost_model.specs.Reference.{route_of}
+use Rattle.paths.specs.declared.target.Asked.{Asked}
+use Rattle.paths.specs.declared.target.Asked.TheVariants as asked_for
 use Rattle.admission.specs.declared.policy.PolicyNumbers.{PolicyNumbers}
-use Rattle.admission.specs.declared.control.Control.{Control}
-use Rattle.admission.specs.Reference.{Station, rules_of, Offer, Decided, of_tier, served, samples, is_rejected, by_completion, control_at, controls_until, decided, tick_from}
-use Rattle.admission.specs.OneTier.{decided_alone, decided_alone_next, decided_alone_from, AreOfTier}
-use Rattle.admission.proofs.RequestLemmas.{of_tier-other, of_tier-none}
-use Rattle.admission.proofs.OneTierLemmas.{one_tier_as_before}
+use Rattle.admission.specs.declared.control.Decision.{Decision}
+use Rattle.admission.specs.declared.control.Decision.TheVariants.{Admitted, Rejected}
+use Rattle.admission.specs.Reference.{Station, rules_of, Offer, Decided, Served, servers_of, of_tier, of_pool, as_served, served, finishes, samples, sample, is_rejected, by_completion, control_at, controls_until, least_balance, rate_at, finish_in as finish_of, decide, decided_next, decided_from, decided, tick_from}
+use Rattle.admission.specs.OneTier.{AreOfTier}
+use Rattle.admission.specs.Pools.{AreOfPool}
+use Rattle.admission.specs.Laws.{RunsTo}
+use Rattle.admission.specs.Servers.{HaveNoDelay, last_finish, offers_served, AreInOrder}
+use Rattle.admission.proofs.RequestLemmas.{decided_from-push, of_tier-same, of_tier-other, of_tier-none, last_finish-push}
+use Rattle.admission.proofs.PoolLemmas.{one_pool_serves_all}
+use Rattle.admission.proofs.OrderLemmas.{one_server_in_order}
+use Rattle.admission.proofs.TurnLemmas.{one_server_finishes, finish_from_finish}
 use Rattle.arrivals.specs.declared.incoming.Origin.{Origin}
-use Rattle.reference.specs.declared.summary.Outcome.{Outcome}
-use Rattle.reference.specs.declared.summary.Counts.{Counts}
-use Rattle.reference.specs.declared.summary.Tally.{Tally}
-use Rattle.reference.specs.declared.summary.Summary.{Summary}
-use Rattle.arrivals.specs.Reference.{Arrival, text_of, messages_of, ArrivesWith, Precedes, AreArrivals}
-use Rattle.responses.specs.Reference.{statuses}
-use Rattle.reference.proofs.OneAnswer.{same_outcome}
-use Rattle.reference.proofs.InOrder.{outcome_is, answered}
-use Rattle.reference.specs.Reference.{station_for, Terms, given, Handled, offer_at, offers_of, rejects, is_turned_away, handled_next, handled_after, handled, reply_of, replies_of, replies_text, status_for, counts_of, bypassed_of, breaks_a_rule, rejected_of, samples_of, tally_of, tallies_of, summary_of, Answers}
-use Rattle.reference.specs.Outcomes.{outcome_of}
-use Rattle.reference.specs.Former.{FormerTerms, ArrivedWith, WereArrivals, former_tick, former_offer, former_offers, formerly_rejects, was_turned_away, handled_next_alone, handled_after_alone, former_handled, formerly_given, former_reply, former_replies, former_status, former_counts, former_samples, former_controls, FormerOutcome, former_outcome}
-use Rattle.reference.specs.Laws.{former_terms, no_requests, all_requests, in_tiers, told_in, SameInVersionOne, FormerAnswersHold, UpgradeKeepsAnswers, UpgradeKeepsReplies}
+use Rattle.arrivals.specs.Reference.{Arrival, AreArrivals}
 use Rattle.paths.specs.declared.file.File.{File}
+use Rattle.paths.specs.Reference.{asked, outcome}
+use Rattle.reference.specs.declared.summary.Outcome.{Outcome}
+use Rattle.reference.proofs.InOrder.{outcome_is, numbers_are, answered}
+use Rattle.reference.proofs.Offering.{offers_more}
+use Rattle.reference.specs.Reference.{station_for, Terms, Handled, offer_at, offers_of, rejects, handled_after, handled, reply_of, replies_of, replies_text, counts_of, bypassed_of, rejected_of, samples_of, tally_of, tallies_of, Answers}
+use Rattle.reference.specs.Outcomes.{outcome_of}
+use Rattle.reference.specs.Choices.{with_policies, at_speed}
+use Rattle.reference.specs.Former.{FormerTerms, finish_in, former_finishes, former_samples, former_control, former_controls, former_rate, last_of, token, former_decision, former_offer, former_next, former_decided, former_handled, former_tally, no_requests, former_terms, former_outcome}
+use Rattle.reference.specs.Laws.{AtDefaults, told_in, SameInVersionOne, FormerAnswersHold, UpgradeKeepsAnswers, UpgradeKeepsReplies}
 
 -- ---- offers of tier 0
 
 abbrev AreLowest : List Arrival → Type 0
 AreLowest arrivals = All (λ a. a.origin.tier ≡ 0) arrivals
 
-offer_same : (files : List File) (terms : Terms) (origin : Origin) (what : Meaning) → origin.tier ≡ 0
-    → offer_at files terms origin what ≡ former_offer (former_terms files terms) (former_tick (former_terms files terms) origin) what
-offer_same files terms origin (Request method target version closing since) at = rw at refl
-offer_same files terms origin (Bad fault) at = refl
-
-offers_same : (files : List File) (terms : Terms) (arrivals : List Arrival) → AreLowest arrivals
-    → offers_of files terms arrivals ≡ former_offers (former_terms files terms) arrivals
-unfolding offers_of former_offers
-offers_same files terms [] lowest = refl
-offers_same files terms (a ∷ arrivals) lowest =
-    let first = offer_same files terms a.origin a.message.what (All-head (λ a. a.origin.tier ≡ 0) a arrivals lowest) in
-    let rest = offers_same files terms arrivals (All-tail (λ a. a.origin.tier ≡ 0) a arrivals lowest) in
-    (λ i. first i ++ rest i)
-
-former_lowest : (terms : FormerTerms) (arrivals : List Arrival) → AreOfTier 0 (former_offers terms arrivals)
-unfolding former_offers AreOfTier
-former_lowest terms [] = tt
-former_lowest terms (a ∷ arrivals) = go a.message.what (former_lowest terms arrivals)
+lowest_offers : (files : List File) (terms : Terms) (arrivals : List Arrival) → AreLowest arrivals → AreOfTier 0 (offers_of files terms arrivals)
+unfolding offers_of AreOfTier
+lowest_offers files terms [] lowest = tt
+lowest_offers files terms (a ∷ arrivals) lowest = go a.message.what (lowest_offers files terms arrivals (All-tail (λ a. a.origin.tier ≡ 0) a arrivals lowest))
   where
-    go : (what : Meaning) → AreOfTier 0 (former_offers terms arrivals)
-        → AreOfTier 0 (former_offer terms (former_tick terms a.origin) what ++ former_offers terms arrivals)
-    go (Request method target version closing since) rest = (refl, rest)
+    go : (what : Meaning) → AreOfTier 0 (offers_of files terms arrivals) → AreOfTier 0 (offer_at files terms a.origin what ++ offers_of files terms arrivals)
+    go (Request method target version closing since) rest = (All-head (λ a. a.origin.tier ≡ 0) a arrivals lowest, rest)
     go (Bad fault) rest = rest
 
--- ---- decisions
+all_from : (station : Station) (past : List Decided) (offers : List Offer) → AreOfTier 0 offers → of_tier 0 past ≡ past
+    → of_tier 0 (decided_from station past offers) ≡ decided_from station past offers
+unfolding decided_from AreOfTier
+all_from station past [] of all = all
+all_from station past (offer ∷ offers) of all =
+    all_from station (past ++ decided_next station past offer ∷ []) offers of.1
+    (of_tier-same 0 past (decided_next station past offer) of.0
+    ∙ ap (λ (ds : List Decided). ds ++ decided_next station past offer ∷ []) all)
 
-rejects_same : (station : Station) (offers : List Offer) (offer : Offer) → AreOfTier 0 offers → offer.tier ≡ 0
-    → rejects station offers offer ≡ formerly_rejects station.servers (rules_of station 0) offers offer
-unfolding rejects formerly_rejects
-rejects_same station offers offer of at =
-    let alone = one_tier_as_before station offers of in
-    rw (at, alone.1, alone.0) refl
+all_first : (station : Station) (offers : List Offer) → AreOfTier 0 offers → of_tier 0 (decided station offers) ≡ decided station offers
+all_first station offers of = all_from station [] offers of (of_tier-none 0)
 
-turned_same : (files : List File) (terms : Terms) (earlier : List Arrival) (a : Arrival) → AreLowest earlier → a.origin.tier ≡ 0
-    → is_turned_away files terms earlier a ≡ was_turned_away (former_terms files terms) earlier a
-turned_same files terms earlier a lowest at =
-    (λ i. list_any (rejects (station_for terms) (offers_same files terms earlier lowest i))
-    (offer_same files terms a.origin a.message.what at i)) ∙ go a.message.what
-  where
-    before : List Offer
-    before = former_offers (former_terms files terms) earlier
+others_none : (station : Station) (tier : ℕ) (past : List Decided) (offers : List Offer) → (0 ≡ tier → ⊥) → AreOfTier 0 offers → of_tier tier past ≡ []
+    → of_tier tier (decided_from station past offers) ≡ []
+unfolding decided_from AreOfTier
+others_none station tier past [] apart of none = none
+others_none station tier past (offer ∷ offers) apart of none =
+    others_none station tier (past ++ decided_next station past offer ∷ []) offers apart of.1
+    (of_tier-other tier past (decided_next station past offer) (λ e. apart (sym of.0 ∙ e)) ∙ none)
 
-    go : (what : Meaning)
-        → list_any (rejects (station_for terms) before) (former_offer (former_terms files terms) (former_tick (former_terms files terms) a.origin) what)
-        ≡ list_any (formerly_rejects terms.tariff.costs.servers (rules_of (station_for terms) 0) before)
-        (former_offer (former_terms files terms) (former_tick (former_terms files terms) a.origin) what)
-    go (Request method target version closing since) =
-        ap (λ (away : Bool). away || false)
-        (rejects_same (station_for terms) before _ (former_lowest (former_terms files terms) earlier) refl)
-    go (Bad fault) = refl
-
-handled_same : (files : List File) (terms : Terms) (earlier arrivals : List Arrival) → AreLowest earlier → AreLowest arrivals
-    → handled_after files terms earlier arrivals ≡ handled_after_alone (former_terms files terms) earlier arrivals
-unfolding handled_after handled_after_alone
-handled_same files terms earlier [] before lowest = refl
-handled_same files terms earlier (a ∷ arrivals) before lowest =
-    let at = All-head (λ a. a.origin.tier ≡ 0) a arrivals lowest in
-    let away = turned_same files terms earlier a before at in
-    let first : handled_next files terms earlier a ≡ handled_next_alone (former_terms files terms) earlier a = rw away refl in
-    let rest = handled_same files terms (earlier ++ a ∷ []) arrivals (All-push (λ a. a.origin.tier ≡ 0) earlier a before at)
-    (All-tail (λ a. a.origin.tier ≡ 0) a arrivals lowest) in
-    (λ i. first i ∷ rest i)
-
-handled_alone : (files : List File) (terms : Terms) (arrivals : List Arrival) → AreLowest arrivals
-    → handled files terms arrivals ≡ former_handled (former_terms files terms) arrivals
-handled_alone files terms arrivals lowest = handled_same files terms [] arrivals (All-nil (λ a. a.origin.tier ≡ 0)) lowest
-
--- ---- replies
-
-given_same : {X : Type 0} (files : List File) (terms : Terms) (away : Bool) (what : Meaning) → given {X = X} files terms away what
-    ≡ formerly_given (former_terms files terms) away what
-given_same files terms true what = refl
-given_same files terms false what = refl
-
-reply_same : (files : List File) (terms : Terms) (start : ℕ) (h : Handled)
-    → reply_of files terms start h ≡ former_reply (former_terms files terms) start h
-unfolding reply_of former_reply
-reply_same files terms start h = rw (given_same {X = Unit {0}} files terms h.turned_away h.arrival.message.what) refl
-
-replies_same : (files : List File) (terms : Terms) (start : ℕ) (messages : List Handled)
-    → replies_of files terms start messages ≡ former_replies (former_terms files terms) start messages
-replies_same files terms start [] = refl
-replies_same files terms start (h ∷ messages) = (λ i. reply_same files terms start h i ∷ replies_same files terms start messages i)
-
-status_same : (files : List File) (terms : Terms) (h : Handled) → status_for files terms h ≡ former_status (former_terms files terms) h
-status_same files terms h = rw (given_same {X = Unit {0}} files terms h.turned_away h.arrival.message.what) refl
-
-count_same : (files : List File) (terms : Terms) (messages : List Handled) (status : ℕ)
-    → count_by (λ h. status_for files terms h == status) messages
-    ≡ count_by (λ h. former_status (former_terms files terms) h == status) messages
-count_same files terms messages status = (λ i. count_by (λ h. status_same files terms h i == status) messages)
-
-counts_same : (files : List File) (terms : Terms) (messages : List Handled)
-    → counts_of files terms messages ≡ former_counts (former_terms files terms) messages
-counts_same files terms messages =
-    (λ i. record { by_status = map (λ status. count_same files terms messages status i) statuses })
-
--- ---- how many were turned away
-
-push_alone : (servers : ℕ) (rules : PolicyNumbers) (past : List Decided) (offers : List Offer) (offer : Offer)
-    → decided_alone_from servers rules past (offers ++ offer ∷ [])
-    ≡ decided_alone_from servers rules past offers ++ decided_alone_next servers rules (decided_alone_from servers rules past offers) offer ∷ []
-unfolding decided_alone_from
-push_alone servers rules past [] offer = refl
-push_alone servers rules past (first ∷ offers) offer =
-    push_alone servers rules (past ++ decided_alone_next servers rules past first ∷ []) offers offer
-
-abbrev turned : ℕ → PolicyNumbers → List Offer → ℕ
-turned servers rules offers = count_by (λ r. is_rejected r.decision) (decided_alone servers rules offers)
-
-turned_more : (servers : ℕ) (rules : PolicyNumbers) (offers : List Offer) (offer : Offer)
-    → turned servers rules (offers ++ offer ∷ []) ≡ turned servers rules offers + cond (formerly_rejects servers rules offers offer) 1 0
-unfolding formerly_rejects
-turned_more servers rules offers offer =
-    ap (λ (ds : List Decided). count_by (λ r. is_rejected r.decision) ds) (push_alone servers rules [] offers offer)
-    ∙ sum_by_push (λ (r : Decided). cond (is_rejected r.decision) 1 0) (decided_alone servers rules offers)
-    (decided_alone_next servers rules (decided_alone servers rules offers) offer)
-
-turned_one : (terms : FormerTerms) (earlier : List Arrival) (a : Arrival)
-    → turned terms.tariff.costs.servers terms.rules (former_offers terms (earlier ++ a ∷ []))
-    ≡ turned terms.tariff.costs.servers terms.rules (former_offers terms earlier) + cond (was_turned_away terms earlier a) 1 0
-unfolding former_offers
-turned_one terms earlier a =
-    ap (λ (xs : List Offer). turned terms.tariff.costs.servers terms.rules xs)
-    (flat_map-append (λ a. former_offer terms (former_tick terms a.origin) a.message.what) earlier (a ∷ [])
-    ∙ ap (λ xs. former_offers terms earlier ++ xs) (append-nil (former_offer terms (former_tick terms a.origin) a.message.what)))
-    ∙ go a.message.what
-  where
-    before : List Offer
-    before = former_offers terms earlier
-
-    own : (n : ℕ) (away : Bool) → n + cond away 1 0 ≡ n + cond (away || false) 1 0
-    own n true = refl
-    own n false = refl
-
-    go : (what : Meaning)
-        → turned terms.tariff.costs.servers terms.rules (before ++ former_offer terms (former_tick terms a.origin) what) ≡ turned terms.tariff.costs.servers terms.rules before
-        + cond (list_any (formerly_rejects terms.tariff.costs.servers terms.rules before) (former_offer terms (former_tick terms a.origin) what)) 1 0
-    go (Request method target version closing since) =
-        turned_more terms.tariff.costs.servers terms.rules before _ ∙ own (turned terms.tariff.costs.servers terms.rules before) (formerly_rejects terms.tariff.costs.servers terms.rules before _)
-    go (Bad fault) = ap (λ xs. turned terms.tariff.costs.servers terms.rules xs) (append-nil before) ∙ omega arith
-
-rejected_first : (h : Handled) (messages : List Handled)
-    → length (rejected_of (h ∷ messages)) ≡ cond h.turned_away 1 0 + length (rejected_of messages)
-rejected_first h messages = go h.turned_away refl
-  where
-    go : (away : Bool) → h.turned_away ≡ away → length (rejected_of (h ∷ messages)) ≡ cond h.turned_away 1 0
-        + length (rejected_of messages)
-    go true e = rw e (omega arith)
-    go false e = rw e (omega arith)
-
-turned_all : (terms : FormerTerms) (earlier arrivals : List Arrival)
-    → turned terms.tariff.costs.servers terms.rules (former_offers terms (earlier ++ arrivals))
-    ≡ turned terms.tariff.costs.servers terms.rules (former_offers terms earlier)
-    + length (rejected_of (handled_after_alone terms earlier arrivals))
-unfolding handled_after_alone
-turned_all terms earlier [] = ap (λ xs. turned terms.tariff.costs.servers terms.rules (former_offers terms xs)) (append-nil earlier) ∙ omega arith
-turned_all terms earlier (a ∷ arrivals) =
-    let along = ap (λ xs. turned terms.tariff.costs.servers terms.rules (former_offers terms xs)) (append_assoc earlier (a ∷ []) arrivals) in
-    let more = turned_all terms (earlier ++ a ∷ []) arrivals in
-    let one = turned_one terms earlier a in
-    let own =
-    rejected_first (handled_next_alone terms earlier a) (handled_after_alone terms (earlier ++ a ∷ []) arrivals) in
-    omega (arith, along, more, one, own)
-
-turned_none : (terms : FormerTerms) → turned terms.tariff.costs.servers terms.rules (former_offers terms []) ≡ 0
-unfolding former_offers decided_alone_from
-turned_none terms = refl
-
-turned_is : (terms : FormerTerms) (arrivals : List Arrival)
-    → turned terms.tariff.costs.servers terms.rules (former_offers terms arrivals) ≡ length (rejected_of (former_handled terms arrivals))
-turned_is terms arrivals =
-    let all = turned_all terms [] arrivals in
-    let none = turned_none terms in
-    omega (arith, all, none)
-
--- ---- the tallies
-
-samples_same : (station : Station) (offers : List Offer) → AreOfTier 0 offers
-    → samples_of station offers ≡ former_samples station.servers (rules_of station 0) offers
-unfolding samples_of former_samples
-samples_same station offers of = rw ((one_tier_as_before station offers of).0) refl
-
-first_tally : (files : List File) (terms : Terms) (arrivals : List Arrival)
-    → tally_of (station_for terms) (former_offers (former_terms files terms) arrivals) 0
-    ≡ all_requests (former_outcome (former_terms files terms) arrivals)
-unfolding tally_of former_samples former_controls
-first_tally files terms arrivals =
-    let offers = former_offers (former_terms files terms) arrivals in
-    let alone = one_tier_as_before (station_for terms) offers (former_lowest (former_terms files terms) arrivals) in
-    let count = length-map (served (decided_alone terms.tariff.costs.servers (rules_of (station_for terms) 0) offers)) (λ r. r.finish + r.offer.delay - r.offer.tick) in
-    rw (alone.1, turned_is (former_terms files terms) arrivals, count) refl
-
-others_none : (servers : ℕ) (rules : PolicyNumbers) (tier : ℕ) (past : List Decided) (offers : List Offer) → (0 ≡ tier → ⊥)
-    → AreOfTier 0 offers → of_tier tier past ≡ []
-    → of_tier tier (decided_alone_from servers rules past offers) ≡ []
-unfolding decided_alone_from AreOfTier
-others_none servers rules tier past [] apart of none = none
-others_none servers rules tier past (offer ∷ offers) apart of none =
-    others_none servers rules tier (past ++ decided_alone_next servers rules past offer ∷ []) offers apart of.1
-    (of_tier-other tier past (decided_alone_next servers rules past offer) (λ e. apart (sym of.0 ∙ e)) ∙ none)
-
-other_tally : (station : Station) (offers : List Offer) (tier : ℕ) → (0 ≡ tier → ⊥) → AreOfTier 0 offers
-    → tally_of station offers tier ≡ no_requests
+other_tally : (station : Station) (offers : List Offer) (tier : ℕ) → (0 ≡ tier → ⊥) → AreOfTier 0 offers → tally_of station offers tier ≡ no_requests
 unfolding tally_of served
 other_tally station offers tier apart of =
-    let none : of_tier tier (decided station offers) ≡ [] =
-    ap (of_tier tier) ((one_tier_as_before station offers of).0)
-    ∙ others_none station.servers (rules_of station 0) tier [] offers apart of (of_tier-none tier) in
+    let none : of_tier tier (decided station offers) ≡ [] = others_none station tier [] offers apart of (of_tier-none tier) in
     let controls : controls_until (rules_of station tier) [] (tick_from 0 offers) ≡ [] =
     ap (λ n. filter (λ c. nat_le c.instant (tick_from 0 offers))
     (map (control_at (rules_of station tier) (by_completion [])) (range_with_len 1 n))) (zero-div (rules_of station tier).every) in
     rw (none, controls) refl
 
--- ---- the outcome
+first_alone : (station : Station) (offers : List Offer) → AreOfTier 0 offers
+    → tallies_of station offers ≡ tally_of station offers 0 ∷ no_requests ∷ no_requests ∷ no_requests ∷ []
+first_alone station offers of =
+    λ i. tally_of station offers 0 ∷ other_tally station offers 1 (λ e. omega (arith, e)) of i
+    ∷ other_tally station offers 2 (λ e. omega (arith, e)) of i ∷ other_tally station offers 3 (λ e. omega (arith, e)) of i ∷ []
 
-text_same : (files : List File) (terms : Terms) (start : ℕ) (arrivals : List Arrival) → AreLowest arrivals
-    → replies_of files terms start (handled files terms arrivals)
-    ≡ former_replies (former_terms files terms) start (former_handled (former_terms files terms) arrivals)
-text_same files terms start arrivals lowest =
-    ap (λ hs. replies_of files terms start hs) (handled_alone files terms arrivals lowest)
-    ∙ replies_same files terms start (former_handled (former_terms files terms) arrivals)
+-- ---- the first policy alone decides
 
-rejected_same : (files : List File) (terms : Terms) (arrivals : List Arrival) → AreLowest arrivals
-    → rejected_of (handled files terms arrivals) ≡ (former_outcome (former_terms files terms) arrivals).rejected
-rejected_same files terms arrivals lowest = ap rejected_of (handled_alone files terms arrivals lowest)
+-- two lists of policies with the same first
+abbrev SameFirst : Terms → List PolicyNumbers → Type 0
+SameFirst terms policies = rules_of (station_for terms) 0 ≡ rules_of (station_for (with_policies policies terms)) 0
 
-tallies_same : (files : List File) (terms : Terms) (arrivals : List Arrival)
-    → tallies_of (station_for terms) (former_offers (former_terms files terms) arrivals)
-    ≡ all_requests (former_outcome (former_terms files terms) arrivals) ∷ no_requests ∷ no_requests ∷ no_requests ∷ []
-tallies_same files terms arrivals =
-    let offers = former_offers (former_terms files terms) arrivals in
-    let of = former_lowest (former_terms files terms) arrivals in
-    let first = first_tally files terms arrivals in
-    let second = other_tally (station_for terms) offers 1 (λ e. omega (arith, e)) of in
-    let third = other_tally (station_for terms) offers 2 (λ e. omega (arith, e)) of in
-    let fourth = other_tally (station_for terms) offers 3 (λ e. omega (arith, e)) of in
-    (λ i. first i ∷ second i ∷ third i ∷ fourth i ∷ [])
+next_same : (terms : Terms) (policies : List PolicyNumbers) (past : List Decided) (offer : Offer) → SameFirst terms policies → offer.tier ≡ 0
+    → decided_next (station_for terms) past offer ≡ decided_next (station_for (with_policies policies terms)) past offer
+unfolding servers_of
+next_same terms policies past offer same at = rw (at, same) refl
 
-summary_with : Counts → ℕ → List ℕ → List Tally → Summary
-summary_with counts bypassed samples tiers =
-    record { counts = counts; bypassed = bypassed; samples = samples; tiers = tiers }
+from_same : (terms : Terms) (policies : List PolicyNumbers) (past : List Decided) (offers : List Offer) → SameFirst terms policies → AreOfTier 0 offers
+    → decided_from (station_for terms) past offers ≡ decided_from (station_for (with_policies policies terms)) past offers
+unfolding decided_from AreOfTier
+from_same terms policies past [] same of = refl
+from_same terms policies past (offer ∷ offers) same of =
+    from_same terms policies (past ++ decided_next (station_for terms) past offer ∷ []) offers same of.1
+    ∙ ap (λ (d : Decided). decided_from (station_for (with_policies policies terms)) (past ++ d ∷ []) offers)
+    (next_same terms policies past offer same of.0)
 
-summary_same : (files : List File) (terms : Terms) (arrivals : List Arrival) → AreLowest arrivals
-    → summary_of files terms arrivals ≡ (in_tiers (former_outcome (former_terms files terms) arrivals)).summary
-unfolding summary_with
-summary_same files terms arrivals lowest =
-    let offers = offers_same files terms arrivals lowest in
-    let counts = ap (counts_of files terms) (handled_alone files terms arrivals lowest)
-    ∙ counts_same files terms (former_handled (former_terms files terms) arrivals) in
-    let samples = ap (samples_of (station_for terms)) offers
-    ∙ samples_same (station_for terms) (former_offers (former_terms files terms) arrivals)
-    (former_lowest (former_terms files terms) arrivals) in
-    let tallies = ap (tallies_of (station_for terms)) offers ∙ tallies_same files terms arrivals in
-    (λ i. summary_with (counts i) (bypassed_of arrivals) (samples i) (tallies i))
+decided_same : (terms : Terms) (policies : List PolicyNumbers) (offers : List Offer) → SameFirst terms policies → AreOfTier 0 offers
+    → decided (station_for terms) offers ≡ decided (station_for (with_policies policies terms)) offers
+decided_same terms policies offers same of = from_same terms policies [] offers same of
 
--- ---- the law of version 1
+turned_same : (files : List File) (terms : Terms) (policies : List PolicyNumbers) (offers : List Offer) (origin : Origin) (what : Meaning)
+    → SameFirst terms policies → AreOfTier 0 offers → origin.tier ≡ 0
+    → list_any (rejects (station_for terms) offers) (offer_at files terms origin what)
+    ≡ list_any (rejects (station_for (with_policies policies terms)) offers) (offer_at files terms origin what)
+unfolding rejects servers_of
+turned_same files terms policies offers origin (Request method target version closing since) same of at =
+    rw (at, decided_same terms policies offers same of, same) refl
+turned_same files terms policies offers origin (Bad fault) same of at = refl
 
-lowest_of : (records : List Record) (arrivals : List Arrival) → All (IsRecord One) records
-    → AreArrivals records arrivals → AreLowest arrivals
-lowest_of records arrivals each arrived k d lt =
-    let a = get_or arrivals k d in
-    (arrived.with k d lt).tier
-    ∙ tiers_of_version_one a.connection (take a.place records) (All-take (IsRecord One) a.place records each)
+handled_same : (files : List File) (terms : Terms) (policies : List PolicyNumbers) (earlier arrivals : List Arrival) → SameFirst terms policies
+    → AreLowest earlier → AreLowest arrivals → handled_after files terms earlier arrivals ≡ handled_after files (with_policies policies terms) earlier arrivals
+unfolding handled_after offers_of
+handled_same files terms policies earlier [] same before lowest = refl
+handled_same files terms policies earlier (a ∷ arrivals) same before lowest =
+    let at = All-head (λ a. a.origin.tier ≡ 0) a arrivals lowest in
+    let away = turned_same files terms policies (offers_of files terms earlier) a.origin a.message.what same (lowest_offers files terms earlier before) at in
+    let rest = handled_same files terms policies (earlier ++ a ∷ []) arrivals same (All-push (λ a. a.origin.tier ≡ 0) earlier a before at)
+    (All-tail (λ a. a.origin.tier ≡ 0) a arrivals lowest) in
+    λ i. record { number = length earlier; arrival = a; turned_away = away i } ∷ rest i
 
--- in a capture of version 1 a connection is its number
-number_is : (records : List Record) (i tick c : ℕ) (bytes : List ℕ) → All (IsRecord One) records → slice_get records i ≡ Some (Piece tick c bytes) → named_by c ≡ c
-number_is records i tick c bytes each piece = let low = piece_low records i tick c bytes (all_low One records each) piece in omega (arith, low)
-
-was_with : (records : List Record) (a : Arrival) → All (IsRecord One) records → ArrivesWith records a → ArrivedWith records a
-was_with records a each with = record {
-  bytes = with.bytes;
-  piece = with.piece;
-  number = with.number ∙ number_is records a.place a.origin.tick a.connection with.bytes each with.piece;
-  after = with.after;
-  within = with.within;
-}
-
-were_arrivals : (records : List Record) (arrivals : List Arrival) → All (IsRecord One) records
-    → AreArrivals records arrivals → WereArrivals records arrivals
-were_arrivals records arrivals each arrived = record {
-  each = arrived.each;
-  with = λ k d lt. was_with records (get_or arrivals k d) each (arrived.with k d lt);
-  order = arrived.order;
-}
-
-pub same_in_version_one : SameInVersionOne
-same_in_version_one files terms input old new outcome a one =
-    let c = a.read.capture in
-    let rules : IsCapture One c.start c.records = subst (λ v. IsCapture v c.start c.records) one c.rules in
-    let are : AreArrivals c.records a.read.arrivals =
-    subst (λ rs. AreArrivals rs a.read.arrivals) (numbers_once One c.start c.records refl rules) a.read.are in
-    let few = a.read.few in
-    let most = ap (λ v. (format_of v).max_messages) one in
-    let lowest : AreLowest a.read.arrivals = lowest_of c.records a.read.arrivals rules.each are in
-    let former : FormerOutcome = former_outcome (former_terms files terms) a.read.arrivals in (
-      former,
-      record {
-        start = c.start;
-        records = c.records;
-        arrivals = a.read.arrivals;
-        rules = rules;
-        capture = λ known. subst (λ v. IsCaptureText v (unwrap_or input []) c.start c.records) one (c.text known);
-        arrived = were_arrivals c.records a.read.arrivals rules.each are;
-        few = omega (arith, few, most);
-        written =
-            subst (λ rs. Appends old new (replies_text rs)) (text_same files terms c.start a.read.arrivals lowest) a.written_exactly;
-        outcome = refl;
+-- messages of tier 0 are answered alike under policies with the same first
+shared : (files : List File) (terms : Terms) (policies : List PolicyNumbers) (start : ℕ) (v : Version) (arrivals : List Arrival) → SameFirst terms policies
+    → AreLowest arrivals
+    → (replies_of files terms start (handled files terms arrivals)
+    ≡ replies_of files (with_policies policies terms) start (handled files (with_policies policies terms) arrivals))
+    × (outcome_of v files terms arrivals ≡ outcome_of v files (with_policies policies terms) arrivals)
+unfolding reply_of samples_of tally_of offers_of
+shared files terms policies start v arrivals same lowest =
+    let hs = handled_same files terms policies [] arrivals same (All-nil (λ a. a.origin.tier ≡ 0)) lowest in
+    let offers : List Offer = offers_of files terms arrivals in
+    let of = lowest_offers files terms arrivals lowest in
+    let requests = decided_same terms policies offers same of in
+    let first : tally_of (station_for terms) offers 0 ≡ tally_of (station_for (with_policies policies terms)) offers 0 = rw (requests, same) refl in
+    let tallies = first_alone (station_for terms) offers of ∙ ap (λ t. t ∷ no_requests ∷ no_requests ∷ no_requests ∷ []) first
+    ∙ sym (first_alone (station_for (with_policies policies terms)) offers of) in (
+      λ i. replies_of files terms start (hs i),
+      λ i. record {
+        version = v;
+        rejected = rejected_of (hs i);
+        summary = record {
+          counts = counts_of files terms (hs i);
+          bypassed = bypassed_of arrivals;
+          samples = samples (served (requests i));
+          tiers = tallies i;
+        };
       },
-      outcome_is a ∙ same_outcome (outcome_of c.version files terms a.read.arrivals) (in_tiers former) one
-          (rejected_same files terms a.read.arrivals lowest) (summary_same files terms a.read.arrivals lowest),
     )
 
 -- ---- the law of the upgrade
 
-text_shared : (files : List File) (terms : Terms) (others : List File) (other : Terms) (start : ℕ) (arrivals : List Arrival) → AreLowest arrivals
-    → former_terms files terms ≡ former_terms others other
-    → replies_of files terms start (handled files terms arrivals) ≡ replies_of others other start (handled others other arrivals)
-text_shared files terms others other start arrivals lowest same =
-    text_same files terms start arrivals lowest
-    ∙ ap (λ (t : FormerTerms). former_replies t start (former_handled t arrivals)) same
-    ∙ sym (text_same others other start arrivals lowest)
+-- in a capture of version 1 no connection has a tier but 0
+lowest_of : (start : ℕ) (records : List Record) (arrivals : List Arrival) → IsCapture One start records → AreArrivals (used_once records) arrivals → AreLowest arrivals
+lowest_of start records arrivals rules arrived k d lt =
+    let a = get_or arrivals k d in
+    let are = subst (λ rs. AreArrivals rs arrivals) (numbers_once One start records refl rules) arrived in
+    (are.with k d lt).tier ∙ tiers_of_version_one a.connection (take a.place records) (All-take (IsRecord One) a.place records rules.each)
 
-rejected_shared : (files : List File) (terms : Terms) (others : List File) (other : Terms) (arrivals : List Arrival) → AreLowest arrivals
-    → former_terms files terms ≡ former_terms others other
-    → rejected_of (handled files terms arrivals) ≡ rejected_of (handled others other arrivals)
-rejected_shared files terms others other arrivals lowest same =
-    rejected_same files terms arrivals lowest
-    ∙ ap (λ (t : FormerTerms). (former_outcome t arrivals).rejected) same
-    ∙ sym (rejected_same others other arrivals lowest)
-
-summary_shared : (files : List File) (terms : Terms) (others : List File) (other : Terms) (arrivals : List Arrival) → AreLowest arrivals
-    → former_terms files terms ≡ former_terms others other
-    → summary_of files terms arrivals ≡ summary_of others other arrivals
-summary_shared files terms others other arrivals lowest same =
-    summary_same files terms arrivals lowest
-    ∙ ap (λ (t : FormerTerms). (in_tiers (former_outcome t arrivals)).summary) same
-    ∙ sym (summary_same others other arrivals lowest)
-
--- the answer to another text of the same records
-carried : (files : List File) (terms : Terms) (others : List File) (other : Terms) (text later : List ℕ) (old new : Option (List ℕ)) (outcome : Outcome) (v : Version)
-    (start : ℕ) (records : List Record)
-    → (a : Answers files terms (Some text) old new outcome) → a.read.capture.start ≡ start → a.read.capture.records ≡ records
-    → All (IsRecord One) records → IsCaptureText v later start records → (format_of v).used_again ≡ false
-    → (format_of a.read.capture.version).max_messages ≤ (format_of v).max_messages
-    → former_terms files terms ≡ former_terms others other → Answers others other (Some later) old new (told_in v outcome)
-carried files terms others other text later old new outcome v start records a begin all each capture once most same =
-    let arrivals = a.read.arrivals in
+-- the answer to another text of the same records, by terms that answer their messages alike
+carried : (files : List File) (terms other : Terms) (from to : List ℕ) (old new : Option (List ℕ)) (outcome : Outcome) (v w : Version) (start : ℕ) (records : List Record)
+    → IsCaptureText v from start records → IsCaptureText w to start records → (format_of v).max_messages ≤ (format_of w).max_messages
+    → ((arrivals : List Arrival) → AreArrivals (used_once records) arrivals
+    → (replies_of files terms start (handled files terms arrivals) ≡ replies_of files other start (handled files other arrivals))
+    × (outcome_of w files terms arrivals ≡ outcome_of w files other arrivals))
+    → Answers files terms (Some from) old new outcome → Answers files other (Some to) old new (told_in w outcome)
+carried files terms other from to old new outcome v w start records first second wider alike a =
+    let both = one_list from a.read.capture.version v a.read.capture.start start a.read.capture.records records (a.read.capture.text refl) first in
     let few = a.read.few in
-    let arrived : AreArrivals (used_once records) arrivals = subst (λ rs. AreArrivals (used_once rs) arrivals) all a.read.are in
-    let are : AreArrivals records arrivals = subst (λ rs. AreArrivals rs arrivals) (numbers_once v start records once capture.rules) arrived in
-    let lowest : AreLowest arrivals = lowest_of records arrivals each are in
-    answered others other (Some later) old new (told_in v outcome)
+    let most = ap (λ v. (format_of v).max_messages) both.0 in
+    let are = subst (λ rs. AreArrivals (used_once rs) a.read.arrivals) both.2 a.read.are in
+    let same = alike a.read.arrivals are in
+    answered files other (Some to) old new (told_in w outcome)
     (record {
-      capture = record {
-        version = v;
-        start = start;
-        records = records;
-        rules = capture.rules;
-        text = λ known. capture;
-      };
-      arrivals = arrivals;
-      are = arrived;
-      few = omega (arith, few, most);
+      capture = record { version = w; start = start; records = records; rules = second.rules; text = λ known. second };
+      arrivals = a.read.arrivals;
+      are = are;
+      few = omega (arith, few, most, wider);
     })
-    (subst (λ rs. Appends old new (replies_text rs))
-    (ap (λ s. replies_of files terms s (handled files terms arrivals)) begin
-    ∙ text_shared files terms others other start arrivals lowest same) a.written_exactly)
-    (same_outcome (told_in v outcome) (outcome_of v others other arrivals) refl
-    (a.listed_exactly ∙ rejected_shared files terms others other arrivals lowest same)
-    (a.figures ∙ summary_shared files terms others other arrivals lowest same))
+    (subst (λ rs. Appends old new (replies_text rs)) (ap (λ s. replies_of files terms s (handled files terms a.read.arrivals)) both.1 ∙ same.0) a.written_exactly)
+    (ap (told_in w) (outcome_is a) ∙ same.1)
 
 pub upgrade_keeps_answers : UpgradeKeepsAnswers
-upgrade_keeps_answers files terms others other text later old new outcome u one same =
-    let first : IsCaptureText One text u.start u.records =
-    subst (λ v. IsCaptureText v text u.start u.records) one u.capture in
+upgrade_keeps_answers files terms policies text later old new outcome u one same =
+    let first : IsCaptureText One text u.start u.records = subst (λ v. IsCaptureText v text u.start u.records) one u.capture in
     let second : IsCaptureText Two later u.start u.records =
     subst (λ w. IsCaptureText Two w u.start u.records) (sym (u.text ∙ ap (λ v. upgraded Two v u.start u.records) one)) (upgrade_is Two One text u.start u.records first) in (
-      (λ a.
-          (let both = one_list text a.read.capture.version One a.read.capture.start u.start a.read.capture.records u.records
-          (a.read.capture.text refl) first in
-          carried files terms others other text later old new outcome Two u.start u.records a both.1 both.2
-          first.rules.each second refl (let m = ap (λ v. (format_of v).max_messages) both.0 in omega (arith, m)) same)),
-      (λ a.
-          (let both = one_list later a.read.capture.version Two a.read.capture.start u.start a.read.capture.records u.records
-          (a.read.capture.text refl) second in
-          carried files terms others other later text old new outcome One u.start u.records a both.1 both.2
-          first.rules.each first refl (let m = ap (λ v. (format_of v).max_messages) both.0 in omega (arith, m)) same)),
+      carried files terms (with_policies policies terms) text later old new outcome One Two u.start u.records first second (omega arith)
+          (λ arrivals are. shared files terms policies u.start Two arrivals same (lowest_of u.start u.records arrivals first.rules are)),
+      carried files terms (with_policies policies terms) later text old new outcome Two One u.start u.records second first (omega arith)
+          (λ arrivals are. shared files terms policies u.start One arrivals same (lowest_of u.start u.records arrivals first.rules are)),
     )
 
 -- the answer to the same records in a later format
 pub upgrade_keeps_replies : UpgradeKeepsReplies
-upgrade_keeps_replies files terms to text upgraded old new outcome u a =
-    let both = one_list text a.read.capture.version u.version a.read.capture.start u.start a.read.capture.records u.records
-    (a.read.capture.text refl) u.capture in
-    let few = a.read.few in
-    let most = ap (λ v. (format_of v).max_messages) both.0 in
-    let wider = more_messages to u.version in
-    let capture : IsCaptureText (later to u.version) upgraded u.start u.records =
-    subst (λ w. IsCaptureText (later to u.version) w u.start u.records) (sym u.text) (upgrade_is to u.version text u.start u.records u.capture) in
-    answered files terms (Some upgraded) old new (told_in (later to u.version) outcome)
-    (record {
-      capture = record {
-        version = later to u.version;
-        start = u.start;
-        records = u.records;
-        rules = capture.rules;
-        text = λ known. capture;
-      };
-      arrivals = a.read.arrivals;
-      are = subst (λ rs. AreArrivals (used_once rs) a.read.arrivals) both.2 a.read.are;
-      few = omega (arith, few, most, wider);
-    })
-    (subst (λ s. Appends old new (replies_text (replies_of files terms s (handled files terms a.read.arrivals)))) both.1 a.written_exactly)
-    (same_outcome (told_in (later to u.version) outcome) (outcome_of (later to u.version) files terms a.read.arrivals) refl a.listed_exactly a.figures)
+upgrade_keeps_replies files terms to text upgraded old new outcome u =
+    carried files terms terms text upgraded old new outcome u.version (later to u.version) u.start u.records u.capture
+    (subst (λ w. IsCaptureText (later to u.version) w u.start u.records) (sym u.text) (upgrade_is to u.version text u.start u.records u.capture))
+    (more_messages to u.version) (λ arrivals are. (refl, refl))
 
--- ---- a former answer holds
+-- ---- the requests of that time
 
--- the same arrival, in tier 0
-lowered : Arrival → Arrival
-lowered a = record {
-  origin = record { conn = a.origin.conn; tick = a.origin.tick; tier = 0 };
-  connection = a.connection;
-  place = a.place;
-  message = a.message;
-}
+no_route : (asked : Asked) → route_of [] asked ≡ None
+no_route (asked_for.Path segments folder) = refl
+no_route other = refl
 
-with_lowered : Handled → Handled
-with_lowered h = record { number = h.number; arrival = lowered h.arrival; turned_away = h.turned_away }
+offer_same : (files : List File) (terms : Terms) (origin : Origin) (what : Meaning) → AtDefaults terms → origin.tier ≡ 0
+    → offer_at files terms origin what ≡ former_offer (former_terms files terms) origin.tick what
+offer_same files terms origin (Request method target version closing since) d at =
+    let tick : origin.tick * 100 / 100 ≡ origin.tick = mul-div_cancel origin.tick (omega arith) in
+    rw (at, d.routes, no_route (asked (codes "GET") target), d.delay, d.speed, tick) refl
+offer_same files terms origin (Bad fault) d at = refl
 
-lowered_messages : (c : ℕ) (arrivals : List Arrival) → messages_of c (map lowered arrivals) ≡ messages_of c arrivals
-unfolding lowered
-lowered_messages c [] = refl
-lowered_messages c (a ∷ arrivals) = go (a.connection == c) refl (lowered_messages c arrivals)
+-- they have no delay, and all come to pool 0
+abbrev ArePlain : List Offer → Type 0
+ArePlain offers = HaveNoDelay offers × AreOfPool 0 offers
+
+plain_offers : (files : List File) (terms : Terms) (arrivals : List Arrival) → AtDefaults terms → AreLowest arrivals
+    → ArePlain (offers_of files terms arrivals)
+unfolding offers_of HaveNoDelay AreOfPool
+plain_offers files terms [] d lowest = (tt, tt)
+plain_offers files terms (a ∷ arrivals) d lowest =
+    rw (offer_same files terms a.origin a.message.what d (All-head (λ a. a.origin.tier ≡ 0) a arrivals lowest))
+    (go a.message.what (plain_offers files terms arrivals d (All-tail (λ a. a.origin.tier ≡ 0) a arrivals lowest)))
   where
-    go : (own : Bool) → (a.connection == c) ≡ own → messages_of c (map lowered arrivals) ≡ messages_of c arrivals
-        → messages_of c (map lowered (a ∷ arrivals)) ≡ messages_of c (a ∷ arrivals)
-    go true e rest = rw e (ap (λ ms. a.message ∷ ms) rest)
-    go false e rest = rw e rest
+    go : (what : Meaning) → ArePlain (offers_of files terms arrivals)
+        → ArePlain (former_offer (former_terms files terms) a.origin.tick what ++ offers_of files terms arrivals)
+    go (Request method target version closing since) rest = ((refl, rest.0), (refl, rest.1))
+    go (Bad fault) rest = rest
 
-lowered_order : (arrivals : List Arrival) → AllPairs Precedes arrivals → AllPairs Precedes (map lowered arrivals)
-unfolding lowered
-lowered_order [] order = order
-lowered_order (a ∷ arrivals) order =
-    let first : All (λ b. Precedes (lowered a) (lowered b)) arrivals =
-    λ k d lt. order 0 (suc k) d (omega arith) (omega (arith, lt)) in
-    let rest =
-    lowered_order arrivals (λ i j d below lt. order (suc i) (suc j) d (omega (arith, below)) (omega (arith, lt))) in
-    AllPairs-cons Precedes (lowered a) (map lowered arrivals)
-    (All-map (Precedes (lowered a)) lowered arrivals first) rest
+delays_none : (station : Station) (past : List Decided) (offers : List Offer) → All (λ r. r.offer.delay ≡ 0) past → HaveNoDelay offers
+    → All (λ r. r.offer.delay ≡ 0) (decided_from station past offers)
+unfolding decided_from HaveNoDelay
+delays_none station past [] before none = before
+delays_none station past (offer ∷ offers) before none =
+    delays_none station (past ++ decided_next station past offer ∷ []) offers
+    (All-push (λ (r : Decided). r.offer.delay ≡ 0) past (decided_next station past offer) before none.0) none.1
 
-lowered_with : (records : List Record) (a : Arrival) → All (IsRecord One) records → ArrivedWith records a
-    → ArrivesWith records (lowered a)
-unfolding lowered
-lowered_with records a each with = record {
-  bytes = with.bytes;
-  piece = with.piece;
-  number = with.number ∙ sym (number_is records a.place a.origin.tick a.connection with.bytes each with.piece);
-  tier = sym (tiers_of_version_one a.connection (take a.place records) (All-take (IsRecord One) a.place records each));
-  after = with.after;
-  within = with.within;
-}
-
-lowered_arrivals : (records : List Record) (arrivals : List Arrival) → All (IsRecord One) records
-    → WereArrivals records arrivals
-    → AreArrivals records (map lowered arrivals)
-lowered_arrivals records arrivals each were = record {
-  each = λ c. subst (MessagesOf (text_of c records)) (sym (lowered_messages c arrivals)) (were.each c);
-  with = All-map (ArrivesWith records) lowered arrivals
-      (λ k d lt. lowered_with records (get_or arrivals k d) each (were.with k d lt));
-  order = lowered_order arrivals were.order;
-}
-
-lowered_all : (arrivals : List Arrival) → AreLowest (map lowered arrivals)
-unfolding lowered
-lowered_all arrivals = All-map (λ a. a.origin.tier ≡ 0) lowered arrivals (λ k d lt. refl)
-
-lowered_offers : (terms : FormerTerms) (arrivals : List Arrival)
-    → former_offers terms (map lowered arrivals) ≡ former_offers terms arrivals
-unfolding former_offers lowered
-lowered_offers terms [] = refl
-lowered_offers terms (a ∷ arrivals) =
-    ap (λ xs. former_offer terms (former_tick terms a.origin) a.message.what ++ xs) (lowered_offers terms arrivals)
-
-lowered_next : (terms : FormerTerms) (earlier : List Arrival) (a : Arrival)
-    → handled_next_alone terms (map lowered earlier) (lowered a) ≡ with_lowered (handled_next_alone terms earlier a)
-unfolding lowered with_lowered
-lowered_next terms earlier a = rw (length-map earlier lowered, lowered_offers terms earlier) refl
-
-lowered_handled : (terms : FormerTerms) (earlier arrivals : List Arrival)
-    → handled_after_alone terms (map lowered earlier) (map lowered arrivals)
-    ≡ map with_lowered (handled_after_alone terms earlier arrivals)
-unfolding handled_after_alone
-lowered_handled terms earlier [] = refl
-lowered_handled terms earlier (a ∷ arrivals) =
-    let first = lowered_next terms earlier a in
-    let past : map lowered (earlier ++ a ∷ []) ≡ map lowered earlier ++ lowered a ∷ [] =
-    map-append lowered earlier (a ∷ []) in
-    let rest = ap (λ xs. handled_after_alone terms xs (map lowered arrivals)) (sym past)
-    ∙ lowered_handled terms (earlier ++ a ∷ []) arrivals in
-    (λ i. first i ∷ rest i)
-
-lowered_replies : (terms : FormerTerms) (start : ℕ) (messages : List Handled)
-    → former_replies terms start (map with_lowered messages) ≡ former_replies terms start messages
-unfolding former_reply lowered with_lowered
-lowered_replies terms start [] = refl
-lowered_replies terms start (h ∷ messages) =
-    ap (λ rs. former_reply terms start h ∷ rs) (lowered_replies terms start messages)
-
-lowered_rejected : (messages : List Handled) → rejected_of (map with_lowered messages) ≡ rejected_of messages
-unfolding with_lowered
-lowered_rejected [] = refl
-lowered_rejected (h ∷ messages) = go h.turned_away refl (lowered_rejected messages)
+taken_are : (past : List Decided) → All (λ r. r.offer.delay ≡ 0) past
+    → (former_finishes past ≡ finishes (served past)) × (former_samples past ≡ samples (served past))
+unfolding served
+taken_are [] none = (refl, refl)
+taken_are (r ∷ past) none =
+    let rest = taken_are past (All-tail (λ r. r.offer.delay ≡ 0) r past none) in
+    go r.decision (All-head (λ r. r.offer.delay ≡ 0) r past none) rest.0 rest.1
   where
-    go : (away : Bool) → h.turned_away ≡ away → rejected_of (map with_lowered messages) ≡ rejected_of messages
-        → rejected_of (map with_lowered (h ∷ messages)) ≡ rejected_of (h ∷ messages)
-    go true e rest = rw e (ap (λ ns. h.number ∷ ns) rest)
-    go false e rest = rw e rest
+    go : (d : Decision) → r.offer.delay ≡ 0 → former_finishes past ≡ finishes (served past) → former_samples past ≡ samples (served past)
+        → (finish_in d ++ former_finishes past ≡ finishes (as_served r.offer d ++ served past))
+        × (map (λ finish. finish - r.offer.tick) (finish_in d) ++ former_samples past ≡ samples (as_served r.offer d ++ served past))
+    go (Admitted finish) own fs ss =
+        let sample : finish - r.offer.tick ≡ finish + r.offer.delay - r.offer.tick = omega (arith, own) in
+        (ap (λ fs. finish ∷ fs) fs, λ i. sample i ∷ ss i)
+    go Rejected own fs ss = (fs, ss)
 
--- a count that looks at no tier
-counted_same : {X : Type 0} (f : X → X) (p : X → Bool) (xs : List X) → ((x : X) → p (f x) ≡ p x)
-    → count_by p (map f xs) ≡ count_by p xs
-counted_same f p [] same = refl
-counted_same f p (x ∷ xs) same =
-    let first = sum_by-cons (λ x. cond (p x) 1 0) (f x) (map f xs) in
-    let second = sum_by-cons (λ x. cond (p x) 1 0) x xs in
-    let rest = counted_same f p xs same in
-    first ∙ (λ i. cond (same x i) 1 0 + rest i) ∙ sym second
+offers_are : (station : Station) (past : List Decided) (offers : List Offer)
+    → map (λ r. r.offer) (decided_from station past offers) ≡ map (λ r. r.offer) past ++ offers
+unfolding decided_from
+offers_are station past [] = sym (append-nil (map (λ r. r.offer) past))
+offers_are station past (offer ∷ offers) =
+    offers_are station (past ++ decided_next station past offer ∷ []) offers
+    ∙ ap (λ os. os ++ offers) (map-append (λ (r : Decided). r.offer) past (decided_next station past offer ∷ []))
+    ∙ append_assoc (map (λ r. r.offer) past) (offer ∷ []) offers
 
-lowered_counts : (terms : FormerTerms) (messages : List Handled)
-    → former_counts terms (map with_lowered messages) ≡ former_counts terms messages
-unfolding lowered with_lowered
-lowered_counts terms messages =
-    let same : (status : ℕ) → count_by (λ h. former_status terms h == status) (map with_lowered messages)
-    ≡ count_by (λ h. former_status terms h == status) messages =
-    λ status. counted_same with_lowered (λ h. former_status terms h == status) messages (λ h. refl) in
-    (λ i. record { by_status = map (λ status. same status i) statuses })
+runs_last : (before last : ℕ) (requests : List Served) → RunsTo before requests last → last_of before (finishes requests) ≡ last
+unfolding RunsTo last_of
+runs_last before last [] runs = runs
+runs_last before last (request ∷ requests) runs = runs_last request.finish last requests runs.1
 
-outcome_with : List ℕ → Counts → ℕ → List ℕ → List Control → FormerOutcome
-outcome_with rejected counts bypassed samples controls =
-    record { rejected = rejected; counts = counts; bypassed = bypassed; samples = samples; controls = controls }
+-- what becomes of offers of tier 0 without a delay, which come to one server
+record AreFormer (station : Station) (offers : List Offer) : Type 0 where
+  pub next : (more : List Offer) → AreOfTier 0 more → AreOfPool 0 more → map (decided_next station (decided station offers)) more
+      ≡ map (λ offer. record { offer = offer; decision = former_decision (rules_of station 0) (decided station offers) offer }) more
+  pub samples : samples (served (decided station offers)) ≡ former_samples (decided station offers)
+  pub tally : tally_of station offers 0 ≡ former_tally (rules_of station 0) (decided station offers)
 
-lowered_bypassed : (arrivals : List Arrival) → bypassed_of (map lowered arrivals) ≡ bypassed_of arrivals
-unfolding lowered
-lowered_bypassed arrivals = counted_same lowered (λ a. breaks_a_rule a.message.what) arrivals (λ a. refl)
+are_former : (station : Station) (offers : List Offer) → servers_of station 0 ≡ 1 → AreOfTier 0 offers → ArePlain offers → AreFormer station offers
+unfolding tally_of AreOfTier AreOfPool
+are_former station offers one lowest plain = record {
+  next = next_are;
+  samples = sym taken.1;
+  tally =
+      rw (all_first station offers lowest, controls_are (tick_from 0 offers), offers_are station [] offers, taken.1, length-map (served past) sample) refl;
+}
+  where
+    rules : PolicyNumbers
+    rules = rules_of station 0
 
-lowered_outcome : (terms : FormerTerms) (arrivals : List Arrival)
-    → former_outcome terms (map lowered arrivals) ≡ former_outcome terms arrivals
-unfolding outcome_with
-lowered_outcome terms arrivals =
-    let offers = lowered_offers terms arrivals in
-    let messages = lowered_handled terms [] arrivals in
-    let rejected = ap rejected_of messages ∙ lowered_rejected (former_handled terms arrivals) in
-    let counts = ap (former_counts terms) messages ∙ lowered_counts terms (former_handled terms arrivals) in
-    let bypassed = lowered_bypassed arrivals in
-    (λ i. outcome_with (rejected i) (counts i) (bypassed i) (former_samples terms.tariff.costs.servers terms.rules (offers i))
-    (former_controls terms.tariff.costs.servers terms.rules (offers i)))
+    past : List Decided
+    past = decided station offers
+
+    taken : (former_finishes past ≡ finishes (served past)) × (former_samples past ≡ samples (served past))
+    taken = taken_are past (delays_none station [] offers (All-nil (λ (r : Decided). r.offer.delay ≡ 0)) plain.0)
+
+    in_pool : of_pool 0 (served past) ≡ served past
+    in_pool = (one_pool_serves_all station offers (record { pool = 0; tier = 0; tick = 0; service = 0; delay = 0 }) plain.1).0
+
+    in_order : (tick k : ℕ) → AreInOrder rules (served past) tick k
+    in_order tick k =
+        subst (λ (ds : List Decided). AreInOrder rules (served ds) tick k) (all_first station offers lowest) (one_server_in_order station offers 0 0 tick k one plain.1 plain.0)
+
+    rate_is : (tick : ℕ) → rate_at rules (served past) tick ≡ former_rate rules past tick
+    rate_is tick = rw ((in_order tick 0).order, (in_order tick 0).complete, taken.0, taken.1) refl
+
+    runs : RunsTo 0 (served past) (last_finish (offers_served (served past)))
+    runs = subst (λ (rs : List Served). RunsTo 0 rs (last_finish (offers_served rs))) in_pool (finish_from_finish station offers 0 one)
+
+    finish_is : (offer : Offer) → offer.pool ≡ 0 → finish_of station (served past) offer ≡ max (last_of 0 (former_finishes past)) offer.tick + offer.service
+    finish_is offer place =
+        one_server_finishes station offers offer (rw place one)
+        ∙ ap (λ (rs : List Served). last_finish (offers_served rs ++ offer ∷ [])) (rw place in_pool)
+        ∙ last_finish-push (offers_served (served past)) offer
+        ∙ ap (λ n. max n offer.tick + offer.service)
+        (sym (ap (last_of 0) taken.0 ∙ runs_last 0 (last_finish (offers_served (served past))) (served past) runs))
+
+    decision_is : (offer : Offer) → offer.tier ≡ 0 → offer.pool ≡ 0 → decide station past offer ≡ former_decision rules past offer
+    decision_is offer at place =
+        rw (at, all_first station offers lowest)
+        (λ i. if nat_le token (least_balance (λ tick. rate_is tick i) (rules.depth * token) offer.tick past) then (Admitted (finish_is offer place i)) else Rejected)
+
+    next_are : (more : List Offer) → AreOfTier 0 more → AreOfPool 0 more
+        → map (decided_next station past) more ≡ map (λ offer. record { offer = offer; decision = former_decision rules past offer }) more
+    next_are [] of in_place = refl
+    next_are (offer ∷ more) of in_place =
+        λ i. record { offer = offer; decision = decision_is offer of.0 in_place.0 i } ∷ next_are more of.1 in_place.1 i
+
+    control_is : (k : ℕ) → control_at rules (served past) k ≡ former_control rules past k
+    control_is k = rw ((in_order 0 k).instant, taken.0, taken.1) refl
+
+    controls_are : (tick : ℕ) → controls_until rules (served past) tick ≡ former_controls rules past tick
+    controls_are tick =
+        rw ((in_order 0 0).order, taken.0, length-map (served past) (λ (r : Served). r.finish))
+        (λ i. filter (λ c. nat_le c.instant tick) (map (λ k. control_is k i) (range_with_len 1 (length (served past) / rules.every))))
+
+-- ---- the messages of that time
+
+abbrev past_of : List File → Terms → List Arrival → List Decided
+past_of files terms earlier = decided (station_for terms) (offers_of files terms earlier)
+
+former_lowest : (terms : FormerTerms) (tick : ℕ) (what : Meaning) → AreOfTier 0 (former_offer terms tick what)
+unfolding AreOfTier
+former_lowest terms tick (Request method target version closing since) = (refl, tt)
+former_lowest terms tick (Bad fault) = tt
+
+former_pool : (terms : FormerTerms) (tick : ℕ) (what : Meaning) → AreOfPool 0 (former_offer terms tick what)
+unfolding AreOfPool
+former_pool terms tick (Request method target version closing since) = (refl, tt)
+former_pool terms tick (Bad fault) = tt
+
+one_server : (terms : Terms) → AtDefaults terms → servers_of (station_for terms) 0 ≡ 1
+unfolding servers_of
+one_server terms d = d.servers
+
+-- what becomes of a message after earlier ones
+next_is : (files : List File) (terms : Terms) (earlier : List Arrival) (a : Arrival) → AtDefaults terms → AreLowest earlier → a.origin.tier ≡ 0
+    → map (decided_next (station_for terms) (past_of files terms earlier)) (offer_at files terms a.origin a.message.what)
+    ≡ former_next (former_terms files terms) (past_of files terms earlier) a
+next_is files terms earlier a d lowest at =
+    rw (offer_same files terms a.origin a.message.what d at)
+    ((are_former (station_for terms) (offers_of files terms earlier) (one_server terms d) (lowest_offers files terms earlier lowest) (plain_offers files terms earlier d lowest)).next _
+    (former_lowest (former_terms files terms) a.origin.tick a.message.what) (former_pool (former_terms files terms) a.origin.tick a.message.what))
+
+past_next : (files : List File) (terms : Terms) (earlier : List Arrival) (a : Arrival) → AtDefaults terms → AreLowest earlier → a.origin.tier ≡ 0
+    → past_of files terms (earlier ++ a ∷ []) ≡ past_of files terms earlier ++ former_next (former_terms files terms) (past_of files terms earlier) a
+past_next files terms earlier a d lowest at =
+    ap (decided (station_for terms)) (offers_more files terms earlier a) ∙ go a.message.what
+    ∙ ap (λ ds. past_of files terms earlier ++ ds) (next_is files terms earlier a d lowest at)
+  where
+    offers : List Offer
+    offers = offers_of files terms earlier
+
+    go : (what : Meaning) → decided (station_for terms) (offers ++ offer_at files terms a.origin what)
+        ≡ decided (station_for terms) offers ++ map (decided_next (station_for terms) (decided (station_for terms) offers)) (offer_at files terms a.origin what)
+    go (Request method target version closing since) = decided_from-push (station_for terms) [] offers _
+    go (Bad fault) = ap (decided (station_for terms)) (append-nil offers) ∙ sym (append-nil (decided (station_for terms) offers))
+
+turned_is : (station : Station) (offers more : List Offer)
+    → list_any (rejects station offers) more ≡ list_any (λ r. is_rejected r.decision) (map (decided_next station (decided station offers)) more)
+unfolding rejects
+turned_is station offers [] = refl
+turned_is station offers (offer ∷ more) = ap (λ (away : Bool). is_rejected (decide station (decided station offers) offer) || away) (turned_is station offers more)
+
+all_are : (files : List File) (terms : Terms) (earlier arrivals : List Arrival) → AtDefaults terms → AreLowest earlier → AreLowest arrivals
+    → (past_of files terms (earlier ++ arrivals) ≡ former_decided (former_terms files terms) (past_of files terms earlier) arrivals)
+    × (handled_after files terms earlier arrivals ≡ former_handled (former_terms files terms) (past_of files terms earlier) (length earlier) arrivals)
+unfolding former_decided handled_after former_handled
+all_are files terms earlier [] d before lowest = (ap (past_of files terms) (append-nil earlier), refl)
+all_are files terms earlier (a ∷ arrivals) d before lowest =
+    let at = All-head (λ a. a.origin.tier ≡ 0) a arrivals lowest in
+    let past = past_next files terms earlier a d before at in
+    let away = turned_is (station_for terms) (offers_of files terms earlier) (offer_at files terms a.origin a.message.what)
+    ∙ ap (list_any (λ (r : Decided). is_rejected r.decision)) (next_is files terms earlier a d before at) in
+    let rest = all_are files terms (earlier ++ a ∷ []) arrivals d (All-push (λ a. a.origin.tier ≡ 0) earlier a before at) (All-tail (λ a. a.origin.tier ≡ 0) a arrivals lowest) in
+    let more = rest.1 ∙ (λ i. former_handled (former_terms files terms) (past i) (length-append earlier (a ∷ []) i) arrivals) in (
+      ap (past_of files terms) (sym (append_assoc earlier (a ∷ []) arrivals)) ∙ rest.0 ∙ ap (λ past. former_decided (former_terms files terms) past arrivals) past,
+      λ i. record { number = length earlier; arrival = a; turned_away = away i } ∷ more i,
+    )
+
+-- messages of tier 0 are answered as they were
+as_before : (files : List File) (terms : Terms) (arrivals : List Arrival) → AtDefaults terms → AreLowest arrivals
+    → (handled files terms arrivals ≡ former_handled (former_terms files terms) [] 0 arrivals)
+    × (outcome_of One files terms arrivals ≡ former_outcome files terms arrivals)
+unfolding samples_of offers_of decided_from
+as_before files terms arrivals d lowest =
+    let offers = offers_of files terms arrivals in
+    let of = lowest_offers files terms arrivals lowest in
+    let are = are_former (station_for terms) offers (one_server terms d) of (plain_offers files terms arrivals d lowest) in
+    let all = all_are files terms [] arrivals d (All-nil (λ (a : Arrival). a.origin.tier ≡ 0)) lowest in
+    let samples = are.samples ∙ ap former_samples all.0 in
+    let tally = are.tally ∙ ap (former_tally (rules_of (station_for terms) 0)) all.0 in
+    let tallies = first_alone (station_for terms) offers of ∙ ap (λ t. t ∷ no_requests ∷ no_requests ∷ no_requests ∷ []) tally in (
+      all.1,
+      λ i. record {
+        version = One;
+        rejected = rejected_of (all.1 i);
+        summary = record { counts = counts_of files terms (all.1 i); bypassed = bypassed_of arrivals; samples = samples i; tiers = tallies i };
+      },
+    )
+
+-- ---- the law of version 1
+
+at_same : (files : List File) (terms : Terms) (start : ℕ) {xs ys : List Handled} → AtDefaults terms → xs ≡ ys → replies_of files terms start xs ≡ replies_of files (at_speed 100 terms) start ys
+at_same files terms start d same =
+    λ i. replies_of files (record { tariff = terms.tariff; policies = terms.policies; retry_after = terms.retry_after; speed = d.speed i }) start (same i)
+
+pub same_in_version_one : SameInVersionOne
+same_in_version_one files terms input old new outcome d a one =
+    let c = a.read.capture in
+    let rules : IsCapture One c.start c.records = subst (λ v. IsCapture v c.start c.records) one c.rules in
+    let lowest = lowest_of c.start c.records a.read.arrivals rules a.read.are in
+    let both = as_before files terms a.read.arrivals d lowest in
+    record {
+      read = a.read;
+      version = one;
+      plain = λ k e lt. (numbers_are One c.start c.records a.read.arrivals rules refl a.read.are k e lt, lowest k e lt);
+      written = subst (λ rs. Appends old new (replies_text rs)) (at_same files terms c.start d both.0) a.written_exactly;
+      told = outcome_is a ∙ ap (λ v. outcome_of v files terms a.read.arrivals) one ∙ both.1;
+    }
 
 pub former_answers_hold : FormerAnswersHold
-former_answers_hold files terms input old new former f =
-    let arrivals : List Arrival = map lowered f.arrivals in
-    let lowest = lowered_all f.arrivals in
-    let reported : former_outcome (former_terms files terms) arrivals ≡ former =
-    lowered_outcome (former_terms files terms) f.arrivals ∙ sym f.outcome in
-    let text : former_replies (former_terms files terms) f.start (former_handled (former_terms files terms) f.arrivals)
-    ≡ replies_of files terms f.start (handled files terms arrivals) =
-    sym (text_same files terms f.start arrivals lowest
-    ∙ ap (λ hs. former_replies (former_terms files terms) f.start hs) (lowered_handled (former_terms files terms) [] f.arrivals)
-    ∙ lowered_replies (former_terms files terms) f.start (former_handled (former_terms files terms) f.arrivals)) in (
-      answered files terms input old new (in_tiers former)
-          (record {
-            capture = record {
-              version = One;
-              start = f.start;
-              records = f.records;
-              rules = f.rules;
-              text = f.capture;
-            };
-            arrivals = arrivals;
-            are = subst (λ rs. AreArrivals rs arrivals) (sym (numbers_once One f.start f.records refl f.rules)) (lowered_arrivals f.records f.arrivals f.rules.each f.arrived);
-            few = subst (λ n. n ≤ 1048576) (sym (length-map f.arrivals lowered)) f.few;
-          })
-          (subst (λ rs. Appends old new (replies_text rs)) text f.written)
-          (same_outcome (in_tiers former) (outcome_of One files terms arrivals) refl
-          (sym (ap (λ (o : FormerOutcome). o.rejected) reported) ∙ sym (rejected_same files terms arrivals lowest))
-          (sym (ap (λ (o : FormerOutcome). (in_tiers o).summary) reported) ∙ sym (summary_same files terms arrivals lowest))),
-      refl,
+former_answers_hold files terms input old new outcome d f =
+    let both = as_before files terms f.read.arrivals d (λ k e lt. (f.plain k e lt).1) in (
+      answered files terms input old new outcome f.read
+          (subst (λ rs. Appends old new (replies_text rs)) (sym (at_same files terms f.read.capture.start d both.0)) f.written)
+          (f.told ∙ sym both.1 ∙ ap (λ v. outcome_of v files terms f.read.arrivals) (sym f.version)),
+      f.version,
     )

@@ -57,7 +57,7 @@ same_ones files terms c earlier (a ∷ arrivals) all =
     ap (λ t. cond t (handled_next files terms earlier a ∷ others) others) test ∙ ap (λ l. cond (a.connection == c) (handled_next files terms earlier a ∷ l) l) rest
 
 -- so it is where numbers are used once
-numbers_are : (v : Version) (start : ℕ) (records : List Record) (arrivals : List Arrival) → IsCapture v start records → (format_of v).used_again ≡ false
+pub numbers_are : (v : Version) (start : ℕ) (records : List Record) (arrivals : List Arrival) → IsCapture v start records → (format_of v).used_again ≡ false
     → AreArrivals (used_once records) arrivals → All (λ a. a.origin.conn ≡ a.connection) arrivals
 numbers_are v start records arrivals rules once are = λ k d lt.
     let a = get_or arrivals k d in

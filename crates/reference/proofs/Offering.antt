@@ -8,7 +8,7 @@ use Rattle.http_requests.specs.declared.messages.Meaning.{Meaning}
 use Rattle.http_requests.specs.declared.messages.Meaning.TheVariants.{Request, Bad}
 use Rattle.admission.specs.declared.control.Decision.{Decision}
 use Rattle.admission.specs.declared.control.Decision.TheVariants.{Admitted, Rejected}
-use Rattle.admission.specs.Reference.{Station, Offer, Decided, served, sample, samples, as_served, finish_after, decide, decided, decided_next}
+use Rattle.admission.specs.Reference.{Station, Offer, Decided, served, sample, samples, as_served, finish_in, decide, decided, decided_next}
 use Rattle.admission.proofs.RequestLemmas.{decided_from-push, served-push}
 use Rattle.reference.specs.Reference.{Terms, offer_at, offers_of, rejects, handled_next, handled_after, handled, samples_of}
 use Rattle.arrivals.specs.Reference.{Arrival}
@@ -69,7 +69,7 @@ finish_is false own finish e = ap (finish_or own) e
 -- a request is finished no earlier than it came
 pub finish_late : (station : Station) (past : List Decided) (offer : Offer) (finish : ℕ) → Admitted finish ≡ decide station past offer → offer.tick ≤ finish
 finish_late station past offer finish e =
-    let is : finish ≡ finish_after station.servers (served past) offer = finish_is _ _ _ e in
+    let is : finish ≡ finish_in station (served past) offer = finish_is _ _ _ e in
     omega (arith, is)
 
 -- an admitted request has a sample, which is from its arrival to its finish, with its delay

@@ -4,13 +4,13 @@ use Rattle.std.specs.List.{list_any}
 use Rattle.http_requests.specs.declared.messages.Meaning.{Meaning}
 use Rattle.http_requests.specs.declared.messages.Meaning.TheVariants.{Request, Bad}
 use Rattle.paths.specs.Reference.{asked, outcome}
-use Rattle.admission.specs.Reference.{Offer, served, free_at, is_rejected, decide, decided}
+use Rattle.admission.specs.Reference.{Offer, servers_of, of_pool, served, free_at, is_rejected, decide, decided}
 use Rattle.decision_table.specs.Rows.{heading}
 use Rattle.arrivals.specs.Reference.{Arrival}
 use Rattle.arrivals.specs.declared.incoming.Origin.{Origin}
 use Rattle.reference.specs.Reference.{Terms, station_for, is_head, offer_of, charge_of, offer_at, offers_of, rejects}
 use Rattle.reference.specs.Texts.{AreTexts}
-use Rattle.reference.specs.Explaining.{first_offered, row_after, rows_after, table, row_texts}
+use Rattle.reference.specs.Explaining.{has_pools, first_offered, row_after, rows_after, table, row_texts}
 use Rattle.reference.specs.Laws.{is_row_rejected, RowsAgree, StartsOnceFree}
 use Rattle.reference.proofs.Offering.{finish_is}
 use Rattle.paths.specs.declared.file.File.{File}
@@ -36,8 +36,8 @@ rows_one files terms earlier a = append-nil (row_after files terms earlier a)
 -- the rows are told from the heading on
 pub rows_laws : (files : List File) (terms : Terms) → AreTexts (row_texts files terms)
 rows_laws files terms = record {
-  begins = λ start. ap (λ v. heading ++ v) (rows_none files terms []) ∙ append-nil heading;
-  goes_on = λ start arrivals more. ap (λ v. heading ++ v) (rows_more files terms [] arrivals more) ∙ sym (append_assoc heading (rows_after files terms [] arrivals) (rows_after files terms arrivals more));
+  begins = λ start. ap (λ v. heading (has_pools terms) ++ v) (rows_none files terms []) ∙ append-nil (heading (has_pools terms));
+  goes_on = λ start arrivals more. ap (λ v. heading (has_pools terms) ++ v) (rows_more files terms [] arrivals more) ∙ sym (append_assoc (heading (has_pools terms)) (rows_after files terms [] arrivals) (rows_after files terms arrivals more));
   none = λ start. rows_none files terms;
   more = λ start. rows_more files terms;
   ends = λ start arrivals. sym (append-nil (table files terms arrivals));
@@ -67,7 +67,7 @@ rows_agree files terms earlier a = rejected_row files terms earlier a.origin a.m
 pub starts_once_free : StartsOnceFree
 starts_once_free files terms earlier offer finish admitted =
     let past = decided (station_for terms) (offers_of files terms earlier) in
-    let free = free_at terms.tariff.costs.servers (served past) in
+    let free = free_at (servers_of (station_for terms) offer.pool) (of_pool offer.pool (served past)) in
     let is : finish ≡ max free offer.tick + offer.service = finish_is _ _ _ (sym admitted) in
     begins free offer.tick offer.service finish is
   where

@@ -5,7 +5,7 @@ use Rattle.reference.specs.declared.settings.SettingsFault.{SettingsFault}
 use Rattle.reference.specs.declared.settings.SettingsFault.TheVariants.{Front, Back, Batch, Cache, Retry}
 use Rattle.std.specs.Prelude.{List, []}
 use Rattle.stage_graph.specs.Layouts.{Layout}
-use Rattle.cost_model.specs.Reference.{Tariff, CostTable}
+use Rattle.cost_model.specs.Reference.{Tariff, CostTable, Route}
 use Rattle.admission.specs.declared.policy.PolicyNumbers.{PolicyNumbers}
 use Rattle.reference.specs.Reference.{Choice, Terms}
 
@@ -32,12 +32,12 @@ min_speed = 100
 abbrev pub max_speed : ℕ
 max_speed = 10000
 
--- the choice of these values, without routes, of traffic that comes as it was recorded
+-- the choice of these values, without routes and pools, of traffic that comes as it was recorded
 abbrev pub choice_of : Layout → Layout → (batch cache : ℕ) → CostTable → List PolicyNumbers → ℕ → Choice
 choice_of front back batch cache costs policies retry_after = record {
   floors = record { front = front; back = back; batch = batch; cache = cache };
   served = record {
-    tariff = record { costs = costs; routes = [] };
+    tariff = record { costs = costs; routes = []; pools = [] };
     policies = policies;
     retry_after = retry_after;
     speed = 100;
@@ -49,6 +49,20 @@ abbrev pub with_tariff : Tariff → Terms → Terms
 with_tariff tariff terms = record {
   tariff = tariff;
   policies = terms.policies;
+  retry_after = terms.retry_after;
+  speed = terms.speed;
+}
+
+-- terms with these routes and pools
+abbrev pub with_routes : List Route → List ℕ → Terms → Terms
+with_routes routes pools terms =
+    with_tariff (record { costs = terms.tariff.costs; routes = routes; pools = pools }) terms
+
+-- terms with other policies
+abbrev pub with_policies : List PolicyNumbers → Terms → Terms
+with_policies policies terms = record {
+  tariff = terms.tariff;
+  policies = policies;
   retry_after = terms.retry_after;
   speed = terms.speed;
 }

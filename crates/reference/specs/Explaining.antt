@@ -1,5 +1,5 @@
 -- The table of decisions on a capture: a row for each message, in the order of their arrival.
-use Rattle.std.specs.Prelude.{◌≡◌, ℕ, List, [], ◌∷◌, ◌++◌, length, Option, Some, None}
+use Rattle.std.specs.Prelude.{◌≡◌, ℕ, nat_lt, Bool, List, [], ◌∷◌, ◌++◌, length, Option, Some, None}
 use Rattle.std.specs.Io.KnownBytes.{Appends}
 use Rattle.http_requests.specs.declared.messages.Meaning.{Meaning}
 use Rattle.http_requests.specs.declared.messages.Meaning.TheVariants.{Request, Bad}
@@ -16,12 +16,17 @@ use Rattle.reference.specs.Texts.{Texts}
 use Rattle.reference.specs.declared.summary.Outcome.{Outcome}
 use Rattle.paths.specs.declared.file.File.{File}
 
+-- there are pools besides pool 0
+abbrev pub has_pools : Terms → Bool
+has_pools terms = nat_lt 0 (length terms.tariff.pools)
+
 -- an offer after those of the earlier messages: what it finds, and the decision on it
 abbrev pub offered_after : List File → Terms → List Arrival → Offer → Offered
 offered_after files terms earlier offer = record {
   service = offer.service;
+  pool = offer.pool;
   found = outlook (station_for terms) (decided (station_for terms)
-      (offers_of files terms earlier)) offer.tier offer.tick;
+      (offers_of files terms earlier)) offer.pool offer.tier offer.tick;
   decision = decide (station_for terms) (decided (station_for terms) (offers_of files terms earlier)) offer;
 }
 
@@ -38,6 +43,7 @@ row_of files terms earlier a = record {
   tick = tick_in terms a.origin;
   tier = a.origin.tier;
   status = status_for files terms (handled_next files terms earlier a);
+  pools = has_pools terms;
   offered = first_offered files terms earlier (offer_at files terms a.origin a.message.what);
 }
 
@@ -62,12 +68,12 @@ rows_after files terms earlier (a ∷ arrivals) = row_after files terms earlier 
 
 -- the heading, and the rows of all messages in their order
 abbrev pub table : List File → Terms → List Arrival → List ℕ
-table files terms arrivals = heading ++ rows_after files terms [] arrivals
+table files terms arrivals = heading (has_pools terms) ++ rows_after files terms [] arrivals
 
 -- the table has no last line
 abbrev pub row_texts : List File → Terms → Texts
 row_texts files terms = record {
-  first = heading;
+  first = heading (has_pools terms);
   so_far = λ start arrivals. table files terms arrivals;
   after = λ start earlier arrivals. rows_after files terms earlier arrivals;
   last = λ count. [];

@@ -1,5 +1,5 @@
 -- What follows from the definitions.
-use Rattle.std.specs.Prelude.{◌≡◌, ℕ, ◌+◌, ◌-◌, Bool, List, [], ◌∷◌, ◌++◌, length, take, Option, Some, None, true}
+use Rattle.std.specs.Prelude.{◌≡◌, ℕ, ◌+◌, ◌-◌, Bool, List, [], ◌++◌, take, Option, Some, None, true}
 use Rattle.std.specs.Prelude.{false, is_some, map, filter, ◌==◌, ◌*◌, ◌/◌}
 use Rattle.captures.specs.declared.record.Record.{Record}
 use Rattle.captures.specs.declared.version.Version.{Version}
@@ -13,7 +13,6 @@ use Rattle.admission.specs.declared.control.Decision.TheVariants.{Admitted}
 use Rattle.decision_table.specs.declared.row.Offered.{Offered}
 use Rattle.paths.specs.declared.file.File.{File}
 use Rattle.reference.specs.declared.summary.Outcome.{Outcome}
-use Rattle.reference.specs.declared.summary.Tally.{Tally}
 use Rattle.arrivals.specs.Reference.{Arrival, AreArrivals}
 use Rattle.arrivals.specs.Connections.{IsNumber}
 use Rattle.http_requests.specs.declared.messages.Meaning.{Meaning}
@@ -21,10 +20,11 @@ use Rattle.arrivals.specs.declared.incoming.Origin.{Origin}
 use Rattle.reference.specs.Reference.{Terms, station_for, Handled, handled, handled_next, Answers}
 use Rattle.reference.specs.Reference.{handled_on, replies_of, reply_of, rejected_of, summary_of}
 use Rattle.cost_model.specs.Reference.{Tariff}
-use Rattle.reference.specs.Choices.{with_tariff, at_speed}
+use Rattle.admission.specs.declared.policy.PolicyNumbers.{PolicyNumbers}
+use Rattle.reference.specs.Choices.{with_tariff, with_policies, at_speed}
 use Rattle.reference.specs.Explaining.{offered_after, row_of, table}
 use Rattle.reference.specs.Outcomes.{Stops, StopsFull}
-use Rattle.reference.specs.Former.{FormerTerms, FormerOutcome, FormerAnswers}
+use Rattle.reference.specs.Former.{FormerAnswers}
 
 -- a capture has one answer: what is written to a device of known bytes, and the outcome
 abbrev pub OneAnswer : Type 0
@@ -122,53 +122,24 @@ StartsOnceFree = (files : List File) (terms : Terms) (earlier : List Arrival) (o
 
 -- ---- one policy and four
 
--- these terms with the first policy alone
-abbrev pub former_terms : List File → Terms → FormerTerms
-former_terms files terms = record {
-  files = files;
-  tariff = terms.tariff;
-  rules = rules_of (station_for terms) 0;
-  retry_after = terms.retry_after;
-  speed = terms.speed;
-}
-
--- the tally of a tier that no request came in
-abbrev pub no_requests : Tally
-no_requests = record { admitted = 0; rejected = 0; controls = [] }
-
--- the tally of a tier that all requests came in
-abbrev pub all_requests : FormerOutcome → Tally
-all_requests former = record {
-  admitted = length former.samples;
-  rejected = length former.rejected;
-  controls = former.controls;
-}
-
--- a former outcome, told by tiers: all requests came in tier 0, and captures were of version 1
-abbrev pub in_tiers : FormerOutcome → Outcome
-in_tiers former = record {
-  version = One;
-  rejected = former.rejected;
-  summary = record {
-    counts = former.counts;
-    bypassed = former.bypassed;
-    samples = former.samples;
-    tiers = all_requests former ∷ no_requests ∷ no_requests ∷ no_requests ∷ [];
-  };
-}
+-- each key that came since then is at its default
+pub record AtDefaults (terms : Terms) : Type 0 where
+  pub routes : terms.tariff.routes ≡ []
+  pub servers : terms.tariff.costs.servers ≡ 1
+  pub delay : terms.tariff.costs.delay ≡ 0
+  pub speed : terms.speed ≡ 100
 
 -- the answer to a capture of version 1 is the former one, with the first policy
 abbrev pub SameInVersionOne : Type 0
 SameInVersionOne = (files : List File) (terms : Terms) (input old new : Option (List ℕ)) (outcome : Outcome)
-    → (answers : Answers files terms input old new outcome) → answers.read.capture.version ≡ One
-    → (former : FormerOutcome) × FormerAnswers (former_terms files terms) input old new former
-    × (outcome ≡ in_tiers former)
+    → AtDefaults terms → (answers : Answers files terms input old new outcome)
+    → answers.read.capture.version ≡ One → FormerAnswers files terms input old new outcome
 
 -- and each former answer is that to a capture of version 1, whatever the policies of tiers 1 to 3
 abbrev pub FormerAnswersHold : Type 0
-FormerAnswersHold = (files : List File) (terms : Terms) (input old new : Option (List ℕ)) (former : FormerOutcome)
-    → FormerAnswers (former_terms files terms) input old new former
-    → (answers : Answers files terms input old new (in_tiers former)) × (answers.read.capture.version ≡ One)
+FormerAnswersHold = (files : List File) (terms : Terms) (input old new : Option (List ℕ)) (outcome : Outcome)
+    → AtDefaults terms → FormerAnswers files terms input old new outcome
+    → (answers : Answers files terms input old new outcome) × (answers.read.capture.version ≡ One)
 
 -- the outcome of the same records in another format
 abbrev pub told_in : Version → Outcome → Outcome
@@ -178,14 +149,14 @@ told_in version outcome =
 -- a capture of version 1 and its upgraded text have the same answers but for their format, whatever the policies of
 -- tiers 1 to 3
 abbrev pub UpgradeKeepsAnswers : Type 0
-UpgradeKeepsAnswers = (files : List File) (terms : Terms) (others : List File) (other : Terms)
+UpgradeKeepsAnswers = (files : List File) (terms : Terms) (policies : List PolicyNumbers)
     (text upgraded : List ℕ) (old new : Option (List ℕ)) (outcome : Outcome)
     → (upgrade : IsUpgrade Two text upgraded) → upgrade.version ≡ One
-    → former_terms files terms ≡ former_terms others other
-    → (Answers files terms (Some text) old new outcome → Answers others other (Some upgraded) old new
-    (told_in Two outcome))
-    × (Answers files terms (Some upgraded) old new outcome → Answers others other (Some text) old new
-    (told_in One outcome))
+    → rules_of (station_for terms) 0 ≡ rules_of (station_for (with_policies policies terms)) 0
+    → (Answers files terms (Some text) old new outcome
+    → Answers files (with_policies policies terms) (Some upgraded) old new (told_in Two outcome))
+    × (Answers files terms (Some upgraded) old new outcome
+    → Answers files (with_policies policies terms) (Some text) old new (told_in One outcome))
 
 -- a text of recorded traffic and its upgraded one have the same answers but for their format: so have a capture and the
 -- same traffic in the format that is days long

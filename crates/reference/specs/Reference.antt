@@ -65,7 +65,7 @@ tick_in terms origin = origin.tick * 100 / terms.speed
 
 -- what requests come to
 abbrev pub station_for : Terms → Station
-station_for terms = record { policies = terms.policies; servers = terms.tariff.costs.servers }
+station_for terms = record { policies = terms.policies; pools = terms.tariff.costs.servers ∷ terms.tariff.pools }
 
 -- What each message is answered with: by the reference server, which has one thread, no stages and no cache, and takes
 -- the messages one after another in the order of their arrival.
@@ -147,6 +147,7 @@ charge_of files terms target head since o = charge terms.tariff target o head (i
 -- the offer of a request that came from there and costs this
 abbrev pub offer_of : Terms → Origin → Charge → Offer
 offer_of terms origin cost = record {
+  pool = cost.pool;
   tier = origin.tier;
   tick = tick_in terms origin;
   service = cost.service;

@@ -50,13 +50,14 @@ pub fn due_begins()
     ensures { DueBegin }
 {}
 
-/// A capture of version 1 has the answer that it had when there was one policy and there were no tiers: that policy is
-/// the first, and each request stands in the tally of tier 0.
+/// Where each key that came since is at its default, a capture of version 1 has the answer that it had when there was one
+/// policy and one server: that policy is the first, and each request stands in the tally of tier 0.
 pub fn same_in_version_one()
     ensures { SameInVersionOne }
 {}
 
-/// What was the answer when there were no tiers is the answer now, whatever the policies of tiers 1 to 3.
+/// What was the answer when there were no tiers is the answer now, where each key that came since is at its default,
+/// whatever the policies of tiers 1 to 3.
 pub fn former_answers_hold()
     ensures { FormerAnswersHold }
 {}

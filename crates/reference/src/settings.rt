@@ -3,13 +3,14 @@
 ghost use Rattle.std.specs.Prelude.{◌≡◌, ◌≤◌, ◌*◌, ◌/◌, [], ℕ, Some, None, IfOk, IfErr};
 ghost use Rattle.stage_graph.specs.After.{last_cut};
 ghost use Rattle.reference.specs.Reference.{Choice};
-ghost use Rattle.reference.specs.Choices.{IsChoice, choice_of, with_tariff, at_speed, settings_fault};
+ghost use Rattle.reference.specs.Choices.{IsChoice, choice_of, with_routes, at_speed, settings_fault};
+ghost use Rattle.cost_model.specs.Services.{AreServed};
 ghost use Rattle.reference.specs.Choices.{front_steps, back_steps, max_batch};
 ghost use Rattle.reference.specs.Choices.{max_cache, max_retry_after, min_speed, max_speed};
 ghost use Rattle.captures.specs.Reference.{max_tick};
 
 use admission::Policy;
-use cost_model::{Costs, Routes, Tariff};
+use cost_model::{Costs, Pools, Routes, Tariff};
 use stage_graph::Plan;
 use std::marker::Model;
 use thiserror::Error;
@@ -110,19 +111,20 @@ impl Settings {
             back,
             batch,
             cache,
-            tariff: Tariff::new(costs, Routes::none()),
+            tariff: Tariff::new(costs, Routes::none(), Pools::none()),
             policies,
             retry_after,
             speed: MIN_SPEED,
         }
     }
 
-    /// The same settings with these routes, by which some requests cost something else.
-    pub fn with_routes(self, routes: Routes) -> Settings
+    /// The same settings with these routes, by which some requests cost something else, and the pools that they name.
+    pub fn with_routes(self, routes: Routes, pools: Pools) -> Settings
+        requires { AreServed routes pools }
         ensures { result
             ≡ record {
               floors = self.floors;
-              served = with_tariff (record { costs = self.served.tariff.costs; routes = routes }) self.served;
+              served = with_routes routes pools self.served;
             } }
     {
         let costs = self.tariff.costs();
@@ -131,7 +133,7 @@ impl Settings {
             back: self.back,
             batch: self.batch,
             cache: self.cache,
-            tariff: Tariff::new(costs, routes),
+            tariff: Tariff::new(costs, routes, pools),
             policies: self.policies,
             retry_after: self.retry_after,
             speed: self.speed,

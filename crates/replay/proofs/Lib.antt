@@ -13,3 +13,4 @@ pub mod ByBatch
 pub mod Stepping
 pub mod Tallies
 pub mod GroupLemmas
+pub mod Pools

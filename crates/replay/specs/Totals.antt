@@ -9,6 +9,7 @@ use Rattle.replay.specs.declared.totals.Totals.{Totals}
 use Rattle.std.specs.List.{list_any}
 use Rattle.admission.specs.Reference.{Offer, tick_from}
 use Rattle.admission.specs.After.{ControllerAfter}
+use Rattle.cost_model.specs.Reference.{Charge}
 use Rattle.admission.specs.Standing.{station_of}
 use Rattle.replay.specs.declared.decider.Decider.{Decider}
 use Rattle.paths.specs.declared.file.File.{File}
@@ -62,6 +63,11 @@ decided_totals t samples away = record {
   rejected = t.rejected ++ (if away then t.answered ∷ [] else []);
   samples = samples;
 }
+
+-- the offer of a tier at a tick that comes to this
+abbrev pub offer_with : ℕ → ℕ → Charge → Offer
+offer_with tier tick cost =
+    record { pool = cost.pool; tier = tier; tick = tick; service = cost.service; delay = cost.delay }
 
 -- after these offers the next (one, or none) was decided on: whether it was turned away
 pub record Decides (offers next : List Offer) (old new : Decider) (away : Bool) : Type 0 where

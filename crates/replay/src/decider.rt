@@ -3,11 +3,11 @@
 ghost use Rattle.std.specs.Prelude.{◌≡◌, ◌<◌, ◌≤◌, ◌∷◌, ◌&&◌, [], true, Bool, List, length, IfOk, ◌+◌, ◌++◌, map, OnOk};
 ghost use Rattle.admission.specs.Reference.{Offer};
 ghost use Rattle.admission.specs.After.{ControllerAfter};
-ghost use Rattle.admission.specs.Standing.{station_of};
+ghost use Rattle.admission.specs.Standing.{station_of, HasPool};
 ghost use Rattle.reference.specs.Reference.{answers_head, given, offer_at, samples_of, handled_next};
 ghost use Rattle.reference.specs.Reference.{handled_after};
-ghost use Rattle.reference.specs.Reference.{slip_of, tick_in};
-ghost use Rattle.replay.specs.Totals.{Decides};
+ghost use Rattle.reference.specs.Reference.{slip_of, station_for, tick_in};
+ghost use Rattle.replay.specs.Totals.{Decides, offer_with};
 ghost use Rattle.replay.specs.Fronts.{lookup_of};
 ghost use Rattle.replay.specs.Backs.{given_by, only_head, has_location, is_due, is_back, slip_of_pending};
 ghost use Rattle.std.specs.List.{list_all};
@@ -24,8 +24,9 @@ use crate::pending::{Due, PendingReply};
 use crate::server::Server;
 use crate::totals::Totals;
 use crate::{MAX_MESSAGES, Settings};
-use admission::{Controller, Decision, MAX_DELAY, MAX_SERVICE, MAX_TICK};
+use admission::{Controller, Decision, MAX_TICK};
 use arrivals::Origin;
+use cost_model::Charge;
 use http_requests::Meaning;
 use paths::Tree;
 use responses::{Given, Status};
@@ -44,34 +45,32 @@ pub struct Decider {
 pub(crate) fn controller_of(alloc: Global, settings: &Settings) -> Result<Controller, AllocError>
     ensures fits { IfOk result (λ controller. ControllerAfter [] controller) }
     ensures station { IfOk result (λ controller. station_of controller
-        ≡ record { policies = settings.now.served.policies; servers = settings.now.served.tariff.costs.servers }) }
+        ≡ station_for settings.now.served) }
     ensures clock { IfOk result (λ controller. controller.clock ≡ 0) }
 {
-    Controller::with_servers(
-        alloc,
-        settings.policies(),
-        settings.tariff().costs().servers(),
-    )
+    let tariff = settings.tariff();
+    let mut servers = Vec::new(alloc);
+    servers.push(tariff.costs().servers())?;
+    servers.extend_from_slice(tariff.pools().as_slice())?;
+    Controller::with_pools(alloc, settings.policies(), &servers)
 }
 
 impl Decider {
-    /// Offers a request of `tier` that comes at `tick`, takes `service` ticks, and whose response takes `delay` ticks
-    /// beside that: whether it is turned away.
-    fn offer(&mut self, tier: u8, tick: u64, service: u64, delay: u64) -> Result<bool, AllocError>
+    /// Offers a request of `tier` that comes at `tick` and comes to `charge`: whether it is turned away.
+    fn offer(&mut self, tier: u8, tick: u64, charge: Charge) -> Result<bool, AllocError>
         requires offers { (offers : List Offer) × ControllerAfter offers self.old.controller
             × (length offers < MAX_MESSAGES) }
         requires clock { self.old.controller.clock ≤ tick }
         requires tier { tier < 4 }
         requires tick { tick ≤ MAX_TICK }
-        requires service { (1 ≤ service) × (service ≤ MAX_SERVICE) }
-        requires delay { delay ≤ MAX_DELAY }
+        requires pool { HasPool self.old.controller charge.pool }
         ensures { IfOk result
             (λ away. (offers : List Offer) → ControllerAfter offers self.old.controller
             → self.old.totals.samples ≡ samples_of (station_of self.old.controller) offers
-            → Decides offers (record { tier = tier; tick = tick; service = service; delay = delay } ∷ []) self.old
-            self.new away) }
+            → Decides offers (offer_with tier tick charge ∷ []) self.old self.new away) }
     {
-        match self.controller.offer_delayed(tier, tick, service, delay)? {
+        let (pool, service, delay) = (charge.pool(), charge.service(), charge.delay());
+        match self.controller.offer_to(pool, tier, tick, service, delay)? {
             Decision::Admitted { finish } => {
                 self.totals.samples.push(finish - tick + delay)?;
                 Ok(false)
@@ -93,6 +92,7 @@ impl Decider {
     ) -> Result<Due<F>, AllocError>
         requires offers { (offers : List Offer) × ControllerAfter offers self.old.controller
             × (length offers < MAX_MESSAGES) }
+        requires station { station_of self.old.controller ≡ station_for server.now.served }
         requires clock { self.old.controller.clock ≤ tick_in server.now.served origin }
         requires tier { origin.tier < 4 }
         requires tick { origin.tick ≤ MAX_TICK }
@@ -119,7 +119,9 @@ impl Decider {
                 };
                 let settings = server.settings;
                 let tick = server.tick(origin);
-                if self.offer(origin.tier, tick, charge.service(), charge.delay())? {
+                // each route names one that is there
+                let _pools = settings.tariff().pools();
+                if self.offer(origin.tier, tick, charge)? {
                     let retry_after = settings.retry_after();
                     return Ok(Due::Ready(Given::Plain {
                         status: Status::ServiceUnavailable { retry_after },

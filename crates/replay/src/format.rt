@@ -17,7 +17,7 @@ ghost use Rattle.reference.specs.Outcomes.{IsOwn, IfTooMany, IfCutShort};
 use crate::decider::Decider;
 use crate::server::Server;
 use crate::source::Source;
-use crate::{MAX_MESSAGES, ReplayFault};
+use crate::{MAX_MESSAGES, ReplayFault, Settings};
 use arrivals::Origin;
 use devices::Output;
 use http_requests::{Meaning, Message};
@@ -37,15 +37,15 @@ pub(crate) trait Format {
     ghost texts: { List File → Terms → Texts };
 
     /// Writes what stands before any message.
-    fn begin<W: Write>(writer: &mut Output<W>) -> Result<(), ReplayFault>
+    fn begin<W: Write>(settings: &Settings, writer: &mut Output<W>) -> Result<(), ReplayFault>
         requires { CanFail writer.old }
         // Each text is written from the first line to the last.
         ensures texts { (files : List File) (terms : Terms) → AreTexts (texts files terms) }
-        ensures written { OnOk result ((files : List File) (terms : Terms)
-            → Appends writer.old.bytes writer.new.bytes (texts files terms).first) }
+        ensures written { OnOk result ((files : List File)
+            → Appends writer.old.bytes writer.new.bytes (texts files settings.now.served).first) }
         ensures part { OnErr result
-            ((files : List File) (terms : Terms) → AppendsPrefix writer.old.bytes writer.new.bytes
-            (texts files terms).first) }
+            ((files : List File) → AppendsPrefix writer.old.bytes writer.new.bytes
+            (texts files settings.now.served).first) }
         ensures failures { CountsBy writer_failures writer.old.failures writer.new.failures result }
         ensures own { IfErr result IsWriteOrMemory };
 

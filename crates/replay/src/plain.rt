@@ -185,7 +185,7 @@ pub(crate) fn replay_writing<T: Format, F: Tree, R: Read, W: Write>(
         (WritesWhole (T.texts F.files settings.now.served) F.files settings.now.served
         reader.old.bytes writer.old.bytes writer.new.bytes) }
 {
-    T::begin(writer)?;
+    T::begin(settings, writer)?;
     let mut capture = match CaptureReader::open(reader) {
         Ok(capture) => capture,
         Err(fault) => return Err(ReplayFault::from(fault)),

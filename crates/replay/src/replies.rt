@@ -6,13 +6,13 @@ ghost use Rattle.devices.specs.Devices.{CanFail, CountsBy, AppendsPrefix};
 ghost use Rattle.reference.specs.Reference.{first_line, last_line};
 ghost use Rattle.captures.specs.Passes.{IsWriteOrMemory, writer_failures};
 
-use crate::ReplayFault;
 use crate::decider::{Decider, decide_next};
 use crate::format::Format;
 use crate::lookup::look_up;
 use crate::pending::answer_pending;
 use crate::server::Server;
 use crate::source::Source;
+use crate::{ReplayFault, Settings};
 use arrivals::Origin;
 use devices::Output;
 use http_requests::Meaning;
@@ -59,7 +59,7 @@ impl Format for Replies {
 
     ghost texts = { reply_texts };
 
-    fn begin<W: Write>(writer: &mut Output<W>) -> Result<(), ReplayFault> {
+    fn begin<W: Write>(_settings: &Settings, writer: &mut Output<W>) -> Result<(), ReplayFault> {
         write_first_line(writer)
     }
 

@@ -1,27 +1,26 @@
 //! What a replay writes of its messages where a table is asked for: rows.
 
-ghost use Rattle.std.specs.Prelude.{◌≡◌, ◌≤◌, ◌+◌, ◌*◌, ℕ, List, IfSome};
+ghost use Rattle.std.specs.Prelude.{◌≡◌, ◌≤◌, ◌+◌, ◌*◌, ℕ, List};
 ghost use Rattle.std.specs.Option.{option_map};
 ghost use Rattle.responses.specs.Reference.{status_of};
-ghost use Rattle.admission.specs.Reference.{decided};
-ghost use Rattle.admission.specs.After.{outlook};
 ghost use Rattle.arrivals.specs.Reference.{Arrival};
 ghost use Rattle.paths.specs.declared.file.File.{File};
-ghost use Rattle.reference.specs.Reference.{station_for, Terms, tick_in, handled_next, offers_of, slip_of};
+ghost use Rattle.reference.specs.Reference.{Terms, tick_in, handled_next, slip_of};
 ghost use Rattle.replay.specs.Fronts.{lookup_of};
 ghost use Rattle.replay.specs.Backs.{slip_of_pending, given_by};
-ghost use Rattle.reference.specs.Explaining.{row_of, method_of, target_of};
-ghost use Rattle.replay.specs.Rowing.{service_in, turns_away, offered_with};
+ghost use Rattle.reference.specs.Explaining.{has_pools, row_of, method_of, target_of};
+ghost use Rattle.replay.specs.Rowing.{charge_in, pool_of, turns_away, offered_with, outlook_after};
 
-use crate::ReplayFault;
 use crate::decider::{Decider, decide_next};
 use crate::format::Format;
 use crate::lookup::{Lookup, look_up};
 use crate::pending::{Due, PendingReply};
 use crate::server::Server;
 use crate::source::Source;
+use crate::{ReplayFault, Settings};
 use admission::{Decision, MAX_OFFERS, MAX_SERVICE, MAX_TICK, Outlook};
 use arrivals::Origin;
+use cost_model::Charge;
 use decision_table::{Offered, Row, write_heading, write_row};
 use devices::Output;
 use http_requests::Meaning;
@@ -30,14 +29,23 @@ use responses::{Given, HeadRenderer, OK_PLACE, STATUS_CODES, Status};
 use std::alloc::Global;
 use std::io::Write;
 
-/// How long the server works on a message that was looked up, in ticks: nothing where it is no request.
-fn service_in(lookup: &Lookup) -> Option<u64>
-    ensures is { result ≡ service_in lookup.now }
-    ensures range { IfSome result (λ service. service ≤ MAX_SERVICE) }
+/// What a message that was looked up comes to: nothing where it is no request.
+fn charge_in(lookup: &Lookup) -> Option<Charge>
+    ensures { result ≡ charge_in lookup.now }
 {
     match lookup {
-        Lookup::Priced(_, charge) => Some(charge.service()),
+        Lookup::Priced(_, charge) => Some(*charge),
         _ => None,
+    }
+}
+
+/// The pool whose servers work on a message that was looked up, pool 0 where it is no request.
+fn pool_in(lookup: &Lookup) -> u8
+    ensures { result ≡ pool_of (charge_in lookup.now) }
+{
+    match lookup {
+        Lookup::Priced(_, charge) => charge.pool(),
+        _ => 0,
     }
 }
 
@@ -65,13 +73,13 @@ fn turns_away<F: Tree>(due: &Due<F>) -> bool
     }
 }
 
-/// A request that found this, and was turned away or not.
-fn offered_with(found: Outlook, tick: u64, service: u64, away: bool) -> Offered
+/// A request that comes to this, found this, and was turned away or not.
+fn offered_with(found: Outlook, tick: u64, charge: Charge, away: bool) -> Offered
     requires free { found.free ≤ MAX_TICK + MAX_SERVICE * MAX_OFFERS }
     requires tick { tick ≤ MAX_TICK }
-    requires service { service ≤ MAX_SERVICE }
-    ensures { result ≡ offered_with found tick service away }
+    ensures { result ≡ offered_with found tick charge away }
 {
+    let service = charge.service();
     let decision = if away {
         Decision::Rejected
     } else {
@@ -81,41 +89,40 @@ fn offered_with(found: Outlook, tick: u64, service: u64, away: bool) -> Offered
     };
     Offered {
         service,
+        pool: charge.pool(),
         found,
         decision,
     }
 }
 
 /// The same of a message that may be no request.
-fn offered_of(found: Outlook, tick: u64, service: Option<u64>, away: bool) -> Option<Offered>
+fn offered_of(found: Outlook, tick: u64, charge: Option<Charge>, away: bool) -> Option<Offered>
     requires free { found.free ≤ MAX_TICK + MAX_SERVICE * MAX_OFFERS }
     requires tick { tick ≤ MAX_TICK }
-    requires service { IfSome service (λ service. service ≤ MAX_SERVICE) }
-    ensures { result ≡ option_map (λ s. offered_with found tick s away) service }
+    ensures { result ≡ option_map (λ c. offered_with found tick c away) charge }
 {
-    match service {
-        Some(service) => Some(offered_with(found, tick, service, away)),
+    match charge {
+        Some(charge) => Some(offered_with(found, tick, charge, away)),
         None => None,
     }
 }
 
-/// The row of a message that came from there and counts at this tick, takes that long, found this and has this pending
-/// reply.
+/// The row of a message that came from there and counts at this tick, comes to this, found this and has this pending
+/// reply, in a table with a column of pools or without one.
 fn row_of<F: Tree>(
     origin: Origin,
     tick: u64,
-    service: Option<u64>,
+    charge: Option<Charge>,
     found: Outlook,
     pending: &PendingReply<F>,
+    pools: bool,
 ) -> Row
     requires free { found.free ≤ MAX_TICK + MAX_SERVICE * MAX_OFFERS }
     requires tick { tick ≤ MAX_TICK }
-    requires service { IfSome service (λ service. service ≤ MAX_SERVICE) }
     ensures { (files : List File) (terms : Terms) (start : ℕ) (arrivals : List Arrival) (a : Arrival)
-        → a.origin ≡ origin → tick ≡ tick_in terms origin
-        → service ≡ service_in (lookup_of files terms.tariff a.message.what)
-        → found ≡ outlook (station_for terms) (decided (station_for terms) (offers_of files terms arrivals))
-        origin.tier tick
+        → a.origin ≡ origin → tick ≡ tick_in terms origin → pools ≡ has_pools terms
+        → charge ≡ charge_in (lookup_of files terms.tariff a.message.what)
+        → found ≡ outlook_after files terms arrivals (pool_of charge) origin.tier tick
         → slip_of_pending pending.now ≡ slip_of files terms start (handled_next files terms arrivals a)
         → result ≡ row_of files terms arrivals a }
 {
@@ -126,8 +133,16 @@ fn row_of<F: Tree>(
         tick,
         tier: origin.tier,
         status: status_of(&pending.due),
-        offered: offered_of(found, tick, service, away),
+        pools,
+        offered: offered_of(found, tick, charge, away),
     }
+}
+
+/// Whether there are pools besides pool 0.
+fn has_pools(settings: &Settings) -> bool
+    ensures { result ≡ has_pools settings.now.served }
+{
+    !settings.tariff().pools().as_slice().is_empty()
 }
 
 fn method_of(what: &Meaning) -> &[u8]
@@ -156,8 +171,8 @@ impl Format for Rows {
 
     ghost texts = { row_texts };
 
-    fn begin<W: Write>(writer: &mut Output<W>) -> Result<(), ReplayFault> {
-        write_heading(writer)?;
+    fn begin<W: Write>(settings: &Settings, writer: &mut Output<W>) -> Result<(), ReplayFault> {
+        write_heading(writer, has_pools(settings))?;
         Ok(())
     }
 
@@ -171,11 +186,20 @@ impl Format for Rows {
         writer: &mut Output<W>,
     ) -> Result<(), ReplayFault> {
         let lookup = look_up(server, what)?;
-        let service = service_in(&lookup);
+        let (charge, pool) = (charge_in(&lookup), pool_in(&lookup));
         let tick = server.tick(origin);
-        let found = decider.controller.outlook(origin.tier, tick)?;
+        // each route names one that is there
+        let _pools = server.settings.tariff().pools();
+        let found = decider.controller.outlook(pool, origin.tier, tick)?;
         let pending = decide_next(server, origin, what, lookup, decider)?;
-        let row = row_of(origin, tick, service, found, &pending);
+        let row = row_of(
+            origin,
+            tick,
+            charge,
+            found,
+            &pending,
+            has_pools(server.settings),
+        );
         write_row(writer, &row, method_of(what), target_of(what))?;
         Ok(())
     }

@@ -28,6 +28,7 @@ impl Pricing for Brand {
     ghost tariff = { record {
       costs = record { file = 1; kib = 0; error = 1; servers = 1; delay = 0 };
       routes = [];
+      pools = [];
     } };
 }
 

@@ -11,8 +11,10 @@ static LONGEST: Row = Row {
     tick: 8_446_744_073_709_551_615,
     tier: u8::MAX,
     status: u16::MAX,
+    pools: true,
     offered: Some(Offered {
         service: 8_446_744_073_709_551_615,
+        pool: u8::MAX,
         found: Outlook {
             credit: u64::MAX,
             rate: u64::MAX,
@@ -26,7 +28,7 @@ static LONGEST: Row = Row {
 fn table_of(alloc: Global, row: &Row, method: &[u8], target: &[u8]) -> Option<Vec<u8>> {
     let mut text = Vec::new(alloc);
     let mut output = Output::new(&mut text);
-    let is_written = write_heading(&mut output).is_ok()
+    let is_written = write_heading(&mut output, row.pools).is_ok()
         && write_row(&mut output, row, method, target).is_ok();
     if is_written { Some(text) } else { None }
 }
@@ -35,10 +37,10 @@ fn table_of(alloc: Global, row: &Row, method: &[u8], target: &[u8]) -> Option<Ve
 fn longest_numbers(rt: HostRuntime) {
     let text = table_of(rt.alloc(), &LONGEST, b"PUT", b"*").expect(&rt, "memory");
     let want =
-        "number,connection,tick,tier,status,decision,service,credit,rate,start,finish,waited,method,target\n\
+        "number,connection,tick,tier,status,decision,service,credit,rate,start,finish,waited,pool,method,target\n\
          18446744073709551615,18446744073709551615,8446744073709551615,255,65535,admitted,8446744073709551615,\
          18446744073709551615,18446744073709551615,10000000000000000000,18446744073709551615,\
-         10000000000000000000,PUT,*\n";
+         10000000000000000000,255,PUT,*\n";
     assert_eq!(rt; text.as_slice(), want.as_bytes());
 }
 
@@ -48,6 +50,7 @@ static BYPASSED: Row = Row {
     tick: 2,
     tier: 3,
     status: 400,
+    pools: false,
     offered: None,
 };
 

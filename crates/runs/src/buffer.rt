@@ -3,6 +3,7 @@
 ghost use Rattle.runs.specs.Ports.{front_of, IsPrefix};
 ghost use Rattle.std.specs.Prelude.{◌≡◌, ◌≤◌, [], length, take, true, false, OnOk, MatchBool};
 ghost use Rattle.std.specs.Io.KnownBytes.{Appends, Keeps, append_known};
+ghost use Rattle.std.specs.Vec.{vec_capacity};
 ghost use Rattle.devices.specs.Devices.{WritesSome, WritesUnlessOver};
 
 use crate::sink::Sink;
@@ -119,6 +120,7 @@ impl<N: Stood, W: Write> Buffered<N, W> {
             (append_known self.new.device.sink.bytes self.new.waiting.items) }
         ensures over { MatchBool result
             (self.new.device.sink.over ≡ self.old.device.sink.over) (self.new.device.sink.over ≡ true) }
+        ensures room { vec_capacity self.new.waiting ≡ vec_capacity self.old.waiting }
     {
         let (written, all) = self.device.write_out(&self.waiting);
         if all {
@@ -164,11 +166,26 @@ impl<N: Stood, W: Write> Buffered<N, W> {
 }
 
 impl<N: Stood, W: Write> Write for Buffered<N, W> {
-    ghost use Rattle.std.specs.Io.KnownBytes.{append_known};
+    ghost use Rattle.std.specs.Io.KnownBytes.{WriteAppends, append_known};
+    ghost use Rattle.std.specs.Io.{WritesAtMost};
+    ghost use Rattle.std.specs.Prelude.{◌≡◌, ◌≤◌, ◌<◌, ◌+◌, Ok, OnErr, length};
+    ghost use Rattle.std.specs.Vec.{vec_capacity};
 
     ghost contents = { λ b. append_known b.device.sink.bytes b.waiting.items };
 
-    fn write(&mut self, bytes: &[u8]) -> io::Result<usize> {
+    fn write(&mut self, bytes: &[u8]) -> io::Result<usize>
+        ensures bound { WritesAtMost result bytes.now }
+        ensures bytes { WriteAppends
+            (append_known self.old.device.sink.bytes self.old.waiting.items)
+            (append_known self.new.device.sink.bytes self.new.waiting.items) result bytes.now }
+        // In a buffer whose room was made, what ends below the room is taken, and nothing is refused unless the device
+        // has failed.
+        ensures takes { 65536 ≤ vec_capacity self.old.waiting
+            → length self.old.waiting.items + length bytes.now < 65536 → result ≡ Ok (length bytes.now) }
+        ensures refuses { 65536 ≤ vec_capacity self.old.waiting
+            → OnErr result (self.new.device.sink.over ≡ true) }
+        ensures room { vec_capacity self.old.waiting ≤ vec_capacity self.new.waiting }
+    {
         if self.waiting.len() >= ROOM && !self.empty() {
             return Err(io::Error::other("unwritten"));
         }

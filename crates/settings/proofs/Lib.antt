@@ -1,4 +1,5 @@
 mod Counting
+mod Named
 mod Rows
 mod Texts
 mod WrittenOut

@@ -1,5 +1,5 @@
 -- What is said in words of a fault of the settings.
-use Rattle.std.specs.Prelude.{ℕ, ◌==◌, ◌-◌, ◌&&◌, Bool, true, false, not, List, [], ◌∷◌, ◌++◌, length}
+use Rattle.std.specs.Prelude.{ℕ, ◌==◌, ◌-◌, ◌&&◌, Bool, not, List, [], ◌∷◌, ◌++◌, length}
 use Rattle.std.specs.Prelude.{Option, Some, None, codes, bytes_eq, nat_eq, nat_le, nat_lt, if◌then◌else◌}
 use Rattle.std.specs.Str.{chars}
 use Rattle.strsim.specs.Edits.{levenshtein_row}

@@ -112,6 +112,12 @@ row_of (keys.InPolicy table key) = policy_row (keys.Policy table) key
 row_of keys.Page = row keys.Page (codes "page") Table []
 row_of keys.RetryAfter = row keys.Page (codes "retry_after") (Number 1 0 86400)
     (codes "seconds, 0 to 86400: after how long a rejected request may be tried again (Retry-After)")
+row_of keys.Pool = row keys.Pool (codes "pool") Tables
+    (codes "at most 16 of them, each below a line [[pool]]")
+row_of keys.PoolName = row keys.Pool (codes "name") Text
+    (codes "what routes name it by, unlike any other; each pool is named by a route")
+row_of keys.PoolServers = row keys.Pool (codes "servers") (Each 1 1024)
+    (codes "servers, 1 to 1024: how many work side by side on the requests of its routes alone")
 row_of keys.Route = row keys.Route (codes "route") Tables
     (codes "at most 64 of them, each below a line [[route]]")
 row_of keys.RoutePrefix = row keys.Route (codes "prefix") Text
@@ -122,6 +128,8 @@ row_of keys.RouteKib = row keys.Route (codes "kib") (Each 0 1000000)
     (codes "microseconds, 0 to 1000000: how long it works besides on each 1024 bytes that are given")
 row_of keys.RouteDelay = row keys.Route (codes "delay") (Each 0 1000000000)
     (codes "microseconds, 0 to 1000000000: how long each response takes beside the server's work")
+row_of keys.RoutePool = row keys.Route (codes "pool") Text
+    (codes "the name of a pool: its servers work on these requests, and those of costs on all others")
 
 -- the keys that the table of a policy may have
 abbrev pub policy_keys : List PolicyKey
@@ -133,13 +141,16 @@ policy_keys =
 abbrev pub keys_in : Option Key → List Key
 keys_in None =
     keys.Floor ∷ keys.Costs ∷ keys.Policy tables.Policy ∷ keys.Page
-    ∷ keys.Policy tables.Tier1 ∷ keys.Policy tables.Tier2 ∷ keys.Policy tables.Tier3 ∷ keys.Route ∷ []
+    ∷ keys.Policy tables.Tier1 ∷ keys.Policy tables.Tier2 ∷ keys.Policy tables.Tier3
+    ∷ keys.Pool ∷ keys.Route ∷ []
 keys_in (Some keys.Floor) =
     keys.FrontCuts ∷ keys.FrontWorkers ∷ keys.FrontCapacities ∷ keys.BackCuts ∷ keys.BackWorkers ∷ keys.BackCapacities
     ∷ keys.Batch ∷ keys.Cache ∷ []
 keys_in (Some keys.Costs) = keys.File ∷ keys.Kib ∷ keys.Error ∷ keys.Servers ∷ keys.Delay ∷ []
 keys_in (Some keys.Page) = keys.RetryAfter ∷ []
-keys_in (Some keys.Route) = keys.RoutePrefix ∷ keys.RouteCost ∷ keys.RouteKib ∷ keys.RouteDelay ∷ []
+keys_in (Some keys.Pool) = keys.PoolName ∷ keys.PoolServers ∷ []
+keys_in (Some keys.Route) =
+    keys.RoutePrefix ∷ keys.RouteCost ∷ keys.RouteKib ∷ keys.RouteDelay ∷ keys.RoutePool ∷ []
 keys_in (Some (keys.Policy table)) = map (keys.InPolicy table) policy_keys
 keys_in (Some _) = []
 

@@ -18,6 +18,7 @@ use Rattle.settings.specs.declared.config_fault.ConfigFault.{ConfigFault}
 use Rattle.settings.specs.ConfigFaults.{no_text, not_known, range}
 use Rattle.settings.specs.Keys.{KeyKind, Lists, row_of, all_keys, default_of, defaults_of, costs_with, policy_with}
 use Rattle.settings.specs.Documents.{◌>>=◌, misplaced_in, values_fit, number_in, numbers_in}
+use Rattle.settings.specs.Pools.{pools_of, each_used}
 use Rattle.settings.specs.Routes.{routes_of}
 
 -- the lists as the plan of a floor, whose last stage ends with this step
@@ -44,7 +45,7 @@ in_order table p =
 unfoldable pub policy_of : Members → PolicyTable → Result PolicyNumbers ConfigFault
 policy_of document table = in_order table (policy_with (λ key. number_in document (keys.InPolicy table key)))
 
--- what is said fits together: the floors, then the policy of each tier in turn, and then the routes
+-- what is said fits together: the floors, then the policy of each tier in turn, then the pools, and then the routes
 abbrev pub chosen : Members → Result Choice ConfigFault
 chosen document = do
   front ← plan_of document keys.Front 3
@@ -53,7 +54,9 @@ chosen document = do
   tier1 ← policy_of document tables.Tier1
   tier2 ← policy_of document tables.Tier2
   tier3 ← policy_of document tables.Tier3
+  pools ← pools_of document
   routes ← routes_of document
+  used ← each_used 1 pools routes
   Ok (record {
     floors = record {
       front = front;
@@ -62,7 +65,7 @@ chosen document = do
       cache = number_in document keys.Cache;
     };
     served = record {
-      tariff = record { costs = costs_with (number_in document); routes = routes };
+      tariff = record { costs = costs_with (number_in document); routes = routes; pools = pools };
       policies = policy ∷ tier1 ∷ tier2 ∷ tier3 ∷ [];
       retry_after = number_in document keys.RetryAfter;
       speed = 100;
@@ -89,7 +92,7 @@ default_choice = record {
     cache = default_of keys.Cache;
   };
   served = record {
-    tariff = record { costs = costs_with default_of; routes = [] };
+    tariff = record { costs = costs_with default_of; routes = []; pools = [] };
     policies = default_policy ∷ default_policy ∷ default_policy ∷ default_policy ∷ [];
     retry_after = default_of keys.RetryAfter;
     speed = 100;

@@ -11,7 +11,7 @@ use Rattle.settings.specs.declared.config_fault.ConfigFault.{ConfigFault}
 use Rattle.settings.specs.Keys.{KeyKind, Table, Number, Numbers, row_of, all_keys, name_of}
 use Rattle.settings.specs.ConfigFaults.{no_text}
 use Rattle.settings.specs.Documents.{◌>>=◌, number_in, numbers_in}
-use Rattle.settings.specs.Routes.{route_number}
+use Rattle.settings.specs.Pools.{each_number}
 use Rattle.settings.specs.SettingsTable.{document_of, settings_of, settings_read}
 
 -- a list of numbers, as `[1, 2, 3]`
@@ -49,7 +49,7 @@ document_text document =
     codes "# Each key with the value that is in force, below its unit, its range and its meaning.\n"
     ++ flat_map (row_text document) all_keys
 
--- ---- the routes
+-- ---- the pools and the routes
 
 -- the sign of a hexadecimal digit
 abbrev pub hexadecimal : ℕ → ℕ
@@ -73,38 +73,66 @@ abbrev pub text_in : Option Data → List ℕ
 text_in (Some (string text)) = text
 text_in other = []
 
--- an integer of a route
-abbrev pub route_number_in : Members → Key → Option ℕ → ℕ
-route_number_in table key default = result_unwrap_or (route_number table key default) 0
+-- a text at a key of a table
+abbrev pub own_text : Members → Key → List ℕ
+own_text table key = key_text key (quoted (text_in (get_member (name_of key) table)))
 
--- A route with all its keys. What it leaves out is written as it counts.
+-- an integer at a key of a table
+abbrev pub own_number : Members → Key → Option ℕ → List ℕ
+own_number table key default = key_text key (decimal (result_unwrap_or (each_number table key default) 0))
+
+-- a pool
+unfoldable pub pool_text : Members → List ℕ
+pool_text table =
+    codes "\n[[" ++ name_of keys.Pool ++ codes "]]\n" ++ own_text table keys.PoolName
+    ++ own_number table keys.PoolServers None
+
+-- the pool that a route names, if it names one
+abbrev pub text_if_there : Members → Option Data → List ℕ
+text_if_there table None = []
+text_if_there table (Some d) = own_text table keys.RoutePool
+
+unfoldable pub named_text : Members → List ℕ
+named_text table = text_if_there table (get_member (name_of keys.RoutePool) table)
+
+-- the integers of a route
+unfoldable pub numbers_text : ℕ → Members → List ℕ
+numbers_text delay table =
+    own_number table keys.RouteCost None
+    ++ own_number table keys.RouteKib (Some 0)
+    ++ own_number table keys.RouteDelay (Some delay)
+
+-- A route with all its keys. What it leaves out is written as it counts, but for a pool.
 unfoldable pub route_text : ℕ → Members → List ℕ
 route_text delay table =
-    codes "\n[[" ++ name_of keys.Route ++ codes "]]\n"
-    ++ key_text keys.RoutePrefix (quoted (text_in (get_member (name_of keys.RoutePrefix) table)))
-    ++ key_text keys.RouteCost (decimal (route_number_in table keys.RouteCost None))
-    ++ key_text keys.RouteKib (decimal (route_number_in table keys.RouteKib (Some 0)))
-    ++ key_text keys.RouteDelay (decimal (route_number_in table keys.RouteDelay (Some delay)))
+    codes "\n[[" ++ name_of keys.Route ++ codes "]]\n" ++ own_text table keys.RoutePrefix
+    ++ numbers_text delay table ++ named_text table
 
-abbrev pub item_text : ℕ → Option Members → List ℕ
-item_text delay None = []
-item_text delay (Some table) = route_text delay table
+-- a pool or a route, by the list's key
+abbrev pub table_text : Key → ℕ → Members → List ℕ
+table_text keys.Pool delay table = pool_text table
+table_text other delay table = route_text delay table
 
-abbrev pub items_text : ℕ → Items → List ℕ
-items_text delay no_items = []
-items_text delay (item d ds) = item_text delay (as_table d) ++ items_text delay ds
+abbrev pub item_text : Key → ℕ → Option Members → List ℕ
+item_text list delay None = []
+item_text list delay (Some table) = table_text list delay table
 
-abbrev pub list_of_routes : ℕ → Option Data → List ℕ
-list_of_routes delay (Some (array ds)) = items_text delay ds
-list_of_routes delay other = []
+abbrev pub items_text : Key → ℕ → Items → List ℕ
+items_text list delay no_items = []
+items_text list delay (item d ds) = item_text list delay (as_table d) ++ items_text list delay ds
 
--- the routes of a document, in their order
-unfoldable pub routes_text : Members → List ℕ
-routes_text document = list_of_routes (number_in document keys.Delay) (get_member (name_of keys.Route) document)
+abbrev pub list_text_of : Key → ℕ → Option Data → List ℕ
+list_text_of list delay (Some (array ds)) = items_text list delay ds
+list_text_of list delay other = []
+
+-- the pools or the routes of a document, in their order
+unfoldable pub tables_text : Members → Key → List ℕ
+tables_text document list = list_text_of list (number_in document keys.Delay) (get_member (name_of list) document)
 
 -- the settings of a document written out, where it has no fault, or its first one
 abbrev pub text_of : Members → Result (List ℕ) ConfigFault
-text_of document = settings_of document >>= (λ choice. Ok (document_text document ++ routes_text document))
+text_of document = settings_of document
+    >>= (λ choice. Ok (document_text document ++ tables_text document keys.Pool ++ tables_text document keys.Route))
 
 abbrev pub text_or_no_text : Option Members → Result (List ℕ) ConfigFault
 text_or_no_text None = Err no_text

@@ -12,6 +12,7 @@ ghost use Rattle.settings.specs.SettingsTable.{settings_of, settings_read};
 
 use crate::document::{misplaced_in, number_in, numbers_in, values_fit};
 use crate::keys::Kind;
+use crate::pools::{each_used, pools_of};
 use crate::routes::routes_of;
 use crate::{ConfigFault, Key, PolicyKey, PolicyTable};
 use admission::{Policy, PolicyNumbers};
@@ -100,7 +101,9 @@ fn chosen(alloc: Global, document: &Table) -> Result<Settings, ConfigFault>
     let batch = number_in(document, Key::Batch);
     let cache = number_in(document, Key::Cache);
     let retry_after = number_in(document, Key::RetryAfter);
+    let pools = pools_of(alloc, document)?;
     let routes = routes_of(alloc, document)?;
+    each_used(pools.as_slice(), routes.as_slice())?;
     let settings = Settings::in_range(
         front,
         back,
@@ -110,7 +113,7 @@ fn chosen(alloc: Global, document: &Table) -> Result<Settings, ConfigFault>
         [policy, tier1, tier2, tier3],
         retry_after,
     );
-    Ok(settings.with_routes(routes))
+    Ok(settings.with_routes(routes, pools))
 }
 
 /// The service times, servers and delay of a document.

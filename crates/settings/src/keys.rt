@@ -70,12 +70,17 @@ pub enum Key {
     /// `page`.
     Page,
     RetryAfter,
+    /// `pool`, a list of tables.
+    Pool,
+    PoolName,
+    PoolServers,
     /// `route`, a list of tables.
     Route,
     RoutePrefix,
     RouteCost,
     RouteKib,
     RouteDelay,
+    RoutePool,
 }
 
 /// What may stand at a key.
@@ -378,6 +383,27 @@ impl Key {
                 comment: "seconds, 0 to 86400: after how long a rejected request may be tried again (Retry-After)",
                 scale: "",
             },
+            Key::Pool => Row {
+                table: self,
+                name: "pool",
+                kind: Kind::Tables,
+                comment: "at most 16 of them, each below a line [[pool]]",
+                scale: "",
+            },
+            Key::PoolName => Row {
+                table: Key::Pool,
+                name: "name",
+                kind: Kind::Text,
+                comment: "what routes name it by, unlike any other; each pool is named by a route",
+                scale: "",
+            },
+            Key::PoolServers => Row {
+                table: Key::Pool,
+                name: "servers",
+                kind: Kind::Each(1, 1024),
+                comment: "servers, 1 to 1024: how many work side by side on the requests of its routes alone",
+                scale: "",
+            },
             Key::Route => Row {
                 table: self,
                 name: "route",
@@ -411,6 +437,13 @@ impl Key {
                 name: "delay",
                 kind: Kind::Each(0, 1_000_000_000),
                 comment: "microseconds, 0 to 1000000000: how long each response takes beside the server's work",
+                scale: "",
+            },
+            Key::RoutePool => Row {
+                table: Key::Route,
+                name: "pool",
+                kind: Kind::Text,
+                comment: "the name of a pool: its servers work on these requests, and those of costs on all others",
                 scale: "",
             },
         }
@@ -492,6 +525,7 @@ pub(crate) fn keys_in(table: Option<Key>) -> &'static [Key]
             Key::Policy(PolicyTable::Tier1),
             Key::Policy(PolicyTable::Tier2),
             Key::Policy(PolicyTable::Tier3),
+            Key::Pool,
             Key::Route,
         ],
         Some(Key::Floor) => &[
@@ -506,11 +540,13 @@ pub(crate) fn keys_in(table: Option<Key>) -> &'static [Key]
         ],
         Some(Key::Costs) => &[Key::File, Key::Kib, Key::Error, Key::Servers, Key::Delay],
         Some(Key::Page) => &[Key::RetryAfter],
+        Some(Key::Pool) => &[Key::PoolName, Key::PoolServers],
         Some(Key::Route) => &[
             Key::RoutePrefix,
             Key::RouteCost,
             Key::RouteKib,
             Key::RouteDelay,
+            Key::RoutePool,
         ],
         Some(Key::Policy(PolicyTable::Policy)) => policy_keys!(Policy),
         Some(Key::Policy(PolicyTable::Tier1)) => policy_keys!(Tier1),

@@ -6,9 +6,10 @@ mod config_fault;
 mod document;
 mod in_words;
 mod keys;
+mod pools;
 mod routes;
 mod written_out;
-mod written_routes;
+mod written_tables;
 
 pub use config::{MAX_SETTINGS_BYTES, default_settings, read_settings};
 pub use config_fault::{ConfigFault, ConfigFaultKind};

@@ -1,53 +1,21 @@
 //! The routes of a document.
 
-ghost use Rattle.std.specs.Prelude.{◌≡◌, ◌≤◌, Some, IfOk, length};
-ghost use Rattle.std.specs.Option.{option_map, ForSome};
+ghost use Rattle.std.specs.Prelude.{◌≡◌, ◌≤◌, All, IfOk, length};
 ghost use Rattle.toml.specs.Data.{as_table, get_member};
 ghost use Rattle.toml.specs.View.{array_view, table_view, view};
-ghost use Rattle.cost_model.specs.Services.{MAX_DELAY, MAX_ROUTES};
+ghost use Rattle.cost_model.specs.Services.{MAX_POOLS, MAX_ROUTES};
 ghost use Rattle.settings.specs.ConfigFaults.{IsAnswer, Shows};
-ghost use Rattle.settings.specs.Keys.{IsOfEach, name_of, row_of};
-ghost use Rattle.settings.specs.Routes.{each_route, prefix_in, route_in, route_number, routes_of};
+ghost use Rattle.settings.specs.Keys.{name_of};
+ghost use Rattle.settings.specs.Pools.{pool_count};
+ghost use Rattle.settings.specs.Routes.{each_route, prefix_in, route_in, routes_of};
 
-use crate::document::{number_in, number_of};
-use crate::keys::Kind;
+use crate::document::number_in;
+use crate::pools::{each_number, member_of, named_pool};
 use crate::{ConfigFault, Key};
 use cost_model::{MAX_ROUTES, Prefix, Route, Routes};
 use std::alloc::{AllocError, Global};
 use toml::value::Array;
 use toml::{Table, Value};
-
-/// What a table has at a key.
-pub(crate) fn member_of(table: &Table, key: Key) -> Option<&Value>
-    ensures { option_map (λ v. view v.now) result
-        ≡ get_member (name_of key) (table_view table.now) }
-{
-    table.get(key.name())
-}
-
-/// The integer of a route at a key, or its default where it is left out.
-///
-/// # Errors
-///
-/// `Shape` where the value isn't an integer, or is left out without a default; `Range` where it is outside its range.
-pub(crate) fn route_number(
-    table: &Table,
-    key: Key,
-    default: Option<u64>,
-) -> Result<u64, ConfigFault>
-    requires { ForSome default (λ n. IsOfEach (row_of key).kind n) }
-    ensures value { result ≡ route_number (table_view table.now) key default }
-    ensures within { IfOk result (λ n. IsOfEach (row_of key).kind n) }
-{
-    let Kind::Each(least, greatest) = key.row().kind else {
-        return Err(ConfigFault::shape(key));
-    };
-    match (member_of(table, key), default) {
-        (Some(value), _) => number_of(key, least, greatest, value),
-        (None, Some(default)) => Ok(default),
-        (None, None) => Err(ConfigFault::shape(key)),
-    }
-}
 
 /// The segments of a route's prefix.
 ///
@@ -70,31 +38,36 @@ fn prefix_in(alloc: Global, table: &Table) -> Result<Prefix, ConfigFault>
     }
 }
 
-/// The route of one value of the list. A delay that it leaves out is this one.
-fn route_in(alloc: Global, delay: u64, value: &Value) -> Result<Route, ConfigFault>
-    requires { delay ≤ MAX_DELAY }
-    ensures { IsAnswer (route_in delay (as_table (view value.now))) result }
+/// The route of one value of the list.
+fn route_in(alloc: Global, document: &Table, value: &Value) -> Result<Route, ConfigFault>
+    requires { pool_count (table_view document.now) ≤ MAX_POOLS }
+    ensures route { IsAnswer (route_in (table_view document.now) (as_table (view value.now))) result }
+    ensures there { IfOk result (λ route. route.pool ≤ pool_count (table_view document.now)) }
 {
     let Some(table) = value.as_table() else {
         return Err(ConfigFault::shape(Key::Route));
     };
     let prefix = prefix_in(alloc, table)?;
-    let cost = route_number(table, Key::RouteCost, None)?;
-    let kib = route_number(table, Key::RouteKib, Some(0))?;
-    let delay = route_number(table, Key::RouteDelay, Some(delay))?;
-    Ok(Route::in_range(prefix, cost, kib, delay))
+    let cost = each_number(table, Key::RouteCost, None)?;
+    let kib = each_number(table, Key::RouteKib, Some(0))?;
+    let delay = number_in(document, Key::Delay);
+    let delay = each_number(table, Key::RouteDelay, Some(delay))?;
+    let pool = named_pool(document, table)?;
+    Ok(Route::in_range(prefix, cost, kib, delay, pool))
 }
 
 /// The routes of a list, in their order.
-fn each_route(alloc: Global, delay: u64, items: &Array) -> Result<Vec<Route>, ConfigFault>
-    requires { delay ≤ MAX_DELAY }
+fn each_route(alloc: Global, document: &Table, items: &Array) -> Result<Vec<Route>, ConfigFault>
+    requires { pool_count (table_view document.now) ≤ MAX_POOLS }
     ensures routes { Shows (λ routes. routes.items)
-        (each_route delay (array_view items.now)) result }
+        (each_route (table_view document.now) (array_view items.now)) result }
     ensures len { IfOk result (λ routes. length routes.items ≡ length items.now.items) }
+    ensures there { IfOk result
+        (λ routes. All (λ route. route.pool ≤ pool_count (table_view document.now)) routes.items) }
 {
     let mut routes = Vec::new(alloc);
     'items: for item in items {
-        let route = route_in(alloc, delay, item)?;
+        let route = route_in(alloc, document, item)?;
         routes.push(route).map_err(AllocError::from)?;
     }
     Ok(routes)
@@ -108,9 +81,11 @@ fn each_route(alloc: Global, delay: u64, items: &Array) -> Result<Vec<Route>, Co
 /// or `Memory`.
 #[tactic(auto, using(crate::proofs::Counting::counted), unfolding(crate::specs::Routes::routes_of))]
 pub(crate) fn routes_of(alloc: Global, document: &Table) -> Result<Routes, ConfigFault>
-    ensures { IsAnswer (routes_of (table_view document.now)) result }
+    requires { pool_count (table_view document.now) ≤ MAX_POOLS }
+    ensures routes { IsAnswer (routes_of (table_view document.now)) result }
+    ensures there { IfOk result
+        (λ routes. All (λ route. route.pool ≤ pool_count (table_view document.now)) routes) }
 {
-    let delay = number_in(document, Key::Delay);
     let Some(value) = member_of(document, Key::Route) else {
         return Ok(Routes::none());
     };
@@ -120,5 +95,5 @@ pub(crate) fn routes_of(alloc: Global, document: &Table) -> Result<Routes, Confi
     if items.len() > MAX_ROUTES {
         return Err(ConfigFault::range(Key::Route));
     }
-    Ok(Routes::new(each_route(alloc, delay, items)?))
+    Ok(Routes::new(each_route(alloc, document, items)?))
 }

@@ -12,7 +12,7 @@ ghost use Rattle.settings.specs.WrittenOut.{value_text};
 use crate::config::{document_of, settings_of};
 use crate::document::{number_in, numbers_in};
 use crate::keys::{Kind, Row, all_keys};
-use crate::written_routes::write_routes;
+use crate::written_tables::write_tables;
 use crate::{ConfigFault, Key};
 use std::alloc::{AllocError, Global};
 use toml::Table;
@@ -100,7 +100,8 @@ fn text_of(alloc: Global, document: &Table) -> Result<String, ConfigFault>
 {
     let _settings = settings_of(alloc, document)?;
     let mut text = document_text(alloc, document)?;
-    write_routes(alloc, &mut text, document)?;
+    write_tables(alloc, &mut text, document, Key::Pool)?;
+    write_tables(alloc, &mut text, document, Key::Route)?;
     Ok(text)
 }
 

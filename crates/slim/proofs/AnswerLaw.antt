@@ -4,7 +4,7 @@ use Rattle.std.specs.Io.KnownBytes.{Appends}
 use Rattle.std.proofs.lemmas.List.{length-map}
 use Rattle.captures.specs.declared.version.Version.{Version}
 use Rattle.captures.specs.declared.record.Record.{Record}
-use Rattle.captures.specs.Reference.{IsCaptureText, format_of, used_once}
+use Rattle.captures.specs.Reference.{format_of, used_once}
 use Rattle.captures.specs.Upgrades.{later}
 use Rattle.captures.proofs.Agree.{one_list}
 use Rattle.captures.proofs.UpgradeLaws.{more_messages}
@@ -24,7 +24,7 @@ use Rattle.slim.specs.declared.queries.Queries.{Queries}
 use Rattle.slim.specs.declared.queries.Queries.TheVariants.{Kept}
 use Rattle.slim.specs.Targets.{kept_arrival, kept_arrivals}
 use Rattle.slim.specs.Slims.{seen, slimmed}
-use Rattle.slim.specs.Laws.{IsSlim, IsKept, SlimKeepsReplies, SlimKeepsRows, SlimKeepsDecisions}
+use Rattle.slim.specs.Laws.{IsSlim, SlimKeepsReplies, SlimKeepsRows, SlimKeepsDecisions}
 use Rattle.slim.proofs.KeptTargets.{kept_all}
 use Rattle.slim.proofs.SameAnswers.{change_nothing}
 use Rattle.paths.specs.declared.file.File.{File}
@@ -55,13 +55,12 @@ record Beside (queries : Queries) (to : Version) (text slim : List ℕ) (s : IsS
   arrivals : read.arrivals ≡ s.arrivals
   asked : map asked_by own.arrivals ≡ map asked_by (kept_arrivals queries s.arrivals)
 
-beside : (queries : Queries) (to : Version) (text slim : List ℕ) (s : IsSlim queries to text slim) → IsKept s → (read : ArrivedCapture (Some text)) → Beside queries to text slim s read
-beside queries to text slim s is read =
-    let kept = is.kept in
+beside : (queries : Queries) (to : Version) (text slim : List ℕ) (s : IsSlim queries to text slim) → (read : ArrivedCapture (Some text)) → Beside queries to text slim s read
+beside queries to text slim s read =
+    let kept = s.kept in
     let same = one_list text read.capture.version s.version read.capture.start s.start read.capture.records s.records (read.capture.text refl) s.capture in
     let arrived : AreArrivals (used_once s.records) read.arrivals = subst (λ (rs : List Record). AreArrivals (used_once rs) read.arrivals) same.2 read.are in
     let one : read.arrivals ≡ s.arrivals = one_list_of_arrivals (used_once s.records) read.arrivals s.arrivals arrived s.arrived in
-    let whole : IsCaptureText (later to s.version) slim s.start (slimmed queries s.records s.arrivals) = record { text = s.text; rules = is.rules; size = is.size } in
     let few = read.few in
     let most = ap (λ v. (format_of v).max_messages) same.0 in
     let wider = more_messages to s.version in
@@ -69,7 +68,7 @@ beside queries to text slim s is read =
     let count_read = ap length one in
     record {
       own = record {
-        capture = record { version = later to s.version; start = s.start; records = slimmed queries s.records s.arrivals; rules = is.rules; text = λ known. whole };
+        capture = record { version = later to s.version; start = s.start; records = slimmed queries s.records s.arrivals; rules = s.text.rules; text = λ known. s.text };
         arrivals = kept.slims;
         are = kept.arrived;
         few = omega (arith, few, most, wider, count, count_read);
@@ -100,8 +99,8 @@ alike queries to text slim s read b files terms =
     }
 
 pub keeps_replies : SlimKeepsReplies
-keeps_replies files terms queries to text slim old new outcome s is a =
-    let b = beside queries to text slim s is a.read in
+keeps_replies files terms queries to text slim old new outcome s a =
+    let b = beside queries to text slim s a.read in
     let same = alike queries to text slim s a.read b files terms in
     let replies : replies_of files terms a.read.capture.start (handled files terms a.read.arrivals) ≡ replies_of files terms b.own.capture.start (handled files terms b.own.arrivals) =
     sym same.replies ∙ ap (λ t. replies_of files terms t (handled files terms b.own.arrivals)) (sym b.start) in
@@ -111,8 +110,8 @@ keeps_replies files terms queries to text slim old new outcome s is a =
     (a.listed_exactly ∙ sym same.rejected) (a.figures ∙ sym same.summary))
 
 pub keeps_decisions : SlimKeepsDecisions
-keeps_decisions files terms queries to text slim old new other outcome s is a written =
-    let b = beside queries to text slim s is a.read in
+keeps_decisions files terms queries to text slim old new other outcome s a written =
+    let b = beside queries to text slim s a.read in
     let same = alike queries to text slim s a.read b files terms in
     let rows = by_meaning files terms b.own.capture.start b.own.arrivals (kept_arrivals queries s.arrivals) b.asked in
     record {
@@ -123,7 +122,7 @@ keeps_decisions files terms queries to text slim old new other outcome s is a wr
     }
 
 pub keeps_rows : SlimKeepsRows
-keeps_rows files terms to text slim old new outcome s is a =
-    let b = beside Kept to text slim s is a.read in
+keeps_rows files terms to text slim old new outcome s a =
+    let b = beside Kept to text slim s a.read in
     let rows : table files terms a.read.arrivals ≡ table files terms (kept_arrivals Kept s.arrivals) = ap (table files terms) (b.arrivals ∙ sym (kept_all s.arrivals)) in
-    keeps_decisions files terms Kept to text slim old new new outcome s is a (subst (λ (t : List ℕ). Appends old new t) rows a.written)
+    keeps_decisions files terms Kept to text slim old new new outcome s a (subst (λ (t : List ℕ). Appends old new t) rows a.written)

@@ -1,5 +1,5 @@
 -- A slim text is not much longer than the text that it was made of.
-use Rattle.std.proofs.Common.{◌≡◌, ℕ, ◌+◌, ◌*◌, ◌^◌, ◌<◌, ◌≤◌, List, [], ◌∷◌, ◌++◌, length, flat_map, codes, decimal, sym, ap, arith, All}
+use Rattle.std.proofs.Common.{◌≡◌, ℕ, ◌+◌, ◌*◌, ◌^◌, ◌<◌, ◌≤◌, inl, inr, List, [], ◌∷◌, ◌++◌, length, flat_map, codes, decimal, refl, ap, arith, All}
 use Rattle.std.proofs.lemmas.Fmt.{length-decimal-le}
 use Rattle.std.proofs.lemmas.Grind.{common_steps}
 use Rattle.std.proofs.lemmas.List.{length-append}
@@ -13,18 +13,18 @@ use Rattle.captures.specs.Reference.{IsRecord, capture_text, first_line, last_li
 use Rattle.captures.specs.Captures.{size_of, sizes_of}
 use Rattle.captures.specs.Upgrades.{later}
 use Rattle.captures.proofs.Lines.{few_connections}
-use Rattle.slim.specs.Slims.{most_growth, slim_text}
+use Rattle.slim.specs.Slims.{most_growth}
 use Rattle.slim.specs.Laws.{SlimFits}
 
 -- ---- one record
 
-piece_length : (t c l bytes : List ℕ) → length ((codes "piece " ++ t ++ codes " " ++ c ++ codes " " ++ l) ++ 10 ∷ (bytes ++ 10 ∷ [])) ≡ length t + length c + length l + length bytes + 10
+pub piece_length : (t c l bytes : List ℕ) → length ((codes "piece " ++ t ++ codes " " ++ c ++ codes " " ++ l) ++ 10 ∷ (bytes ++ 10 ∷ [])) ≡ length t + length c + length l + length bytes + 10
 piece_length t c l bytes = grind (arith, common_steps)
 
-end_length : (t c : List ℕ) → length ((codes "end " ++ t ++ codes " " ++ c) ++ 10 ∷ []) ≡ length t + length c + 6
+pub end_length : (t c : List ℕ) → length ((codes "end " ++ t ++ codes " " ++ c) ++ 10 ∷ []) ≡ length t + length c + 6
 end_length t c = grind (arith, common_steps)
 
-tier_length : (c n : List ℕ) → length ((codes "tier " ++ c ++ codes " " ++ n) ++ 10 ∷ []) ≡ length c + length n + 7
+pub tier_length : (c n : List ℕ) → length ((codes "tier " ++ c ++ codes " " ++ n) ++ 10 ∷ []) ≡ length c + length n + 7
 tier_length c n = grind (arith, common_steps)
 
 -- a record whose piece is no longer than a block may be
@@ -82,16 +82,19 @@ records_least (r ∷ R) =
     let sum = sum_by-cons size_of r R in
     omega (arith, own, rest, len, sum)
 
--- ---- whole texts
+-- ---- texts
 
-whole_length : (v : Version) (start : ℕ) (R : List Record)
-    → length (capture_text v start R) ≡ length (first_line v start) + 1 + length (flat_map record_text R) + length (last_line R) + 1
-whole_length v start R =
+before_length : (v : Version) (start : ℕ) (R : List Record) → length (text_before_stop v start R) ≡ length (first_line v start) + 1 + length (flat_map record_text R)
+before_length v start R =
     let a = length-append (first_line v start ++ 10 ∷ []) (flat_map record_text R) in
     let b = length-append (first_line v start) (10 ∷ []) in
+    omega (arith, a, b)
+
+whole_length : (v : Version) (start : ℕ) (R : List Record) → length (capture_text v start R) ≡ length (text_before_stop v start R) + length (last_line R) + 1
+whole_length v start R =
     let c = length-append (text_before_stop v start R) (last_line R ++ 10 ∷ []) in
     let d = length-append (last_line R) (10 ∷ []) in
-    omega (arith, a, b, c, d)
+    omega (arith, c, d)
 
 first_most : (v : Version) (start : ℕ) → start ≤ max_start → length (first_line v start) ≤ 37
 first_most One start low = let d = length-decimal-le 20 start (omega arith) (omega (arith, low)) (omega (arith, low)) in let l = length-append (format_of One).opening (decimal start) in omega (arith, d, l)
@@ -104,21 +107,42 @@ last_most S few =
     let l = length-append (codes "stop ") (decimal (length S)) in
     omega (arith, d, l)
 
--- the text of no more records than others have records and bytes
+-- the texts of no more records than others have records and bytes: up to the last line, and whole
+pub grows_before : (v w : Version) (start : ℕ) (R S : List Record) → start ≤ max_start → All (IsRecord w) S → All IsSmall S → length S ≤ sizes_of R + length R
+    → length (text_before_stop w start S) + 30 ≤ most_growth * length (text_before_stop v start R)
+grows_before v w start R S low each small few =
+    let a = before_length w start S in
+    let b = before_length v start R in
+    let c = records_most w S each small in
+    let d = records_least R in
+    let e = first_most w start low in
+    omega (arith, a, b, c, d, e, few)
+
 pub grows : (v w : Version) (start : ℕ) (R S : List Record) → start ≤ max_start → All (IsRecord w) S → All IsSmall S → length S ≤ sizes_of R + length R → length S < 2 ^ 64
     → length (capture_text w start S) ≤ most_growth * length (capture_text v start R)
 grows v w start R S low each small few most =
     let a = whole_length w start S in
     let b = whole_length v start R in
-    let c = records_most w S each small in
-    let d = records_least R in
-    let e = first_most w start low in
+    let c = grows_before v w start R S low each small few in
     let f = last_most S most in
-    omega (arith, a, b, c, d, e, f, few)
+    omega (arith, a, b, c, f)
+
+-- ---- what is too large for a traffic text
 
 pub fits : SlimFits
-fits queries to input old new s traffic small =
-    let size = s.size in
-    let same : length (slim_text queries Traffic s.capture.start s.capture.records s.arrivals) ≡ length (slim_text queries (later to s.capture.version) s.capture.start s.capture.records s.arrivals) =
-    ap (λ v. length (slim_text queries v s.capture.start s.capture.records s.arrivals)) (sym traffic) in
-    omega (arith, size, same, small)
+fits queries to text old new f t traffic =
+    let most : (format_of (later to t.read.version)).max_text_bytes ≡ 1125899906842624 = ap (λ v. (format_of v).max_text_bytes) traffic in
+    elim t.over [
+      | inl h ↦
+          let begins = h.1.begins refl in
+          let all = ap length begins.1 in
+          let len = length-append (text_before_stop t.read.version t.read.start (t.read.records ++ h.0 ∷ [])) begins.0 in
+          let size = h.1.size in
+          let over = h.1.over in
+          omega (arith, most, all, len, size, over)
+      | inr e ↦
+          let all = ap length (e.whole refl).text in
+          let size = e.size in
+          let over = e.over in
+          omega (arith, most, all, size, over)
+    ]

@@ -10,6 +10,7 @@ pub mod Laid
 pub mod Placing
 pub mod Keeping
 pub mod Growth
+pub mod Texts
 pub mod Ruled
 pub mod Standing
 pub mod Stopping

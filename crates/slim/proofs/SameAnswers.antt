@@ -13,7 +13,7 @@ use Rattle.responses.specs.Reference.{statuses, status_of, reply_text}
 use Rattle.arrivals.specs.Reference.{Arrival}
 use Rattle.arrivals.specs.declared.incoming.Origin.{Origin}
 use Rattle.reference.specs.Reference.{Terms, station_for, tick_in, offer_of, is_unmodified_file, length_given, Handled, offer_at, offers_of, rejects, handled_next, handled_after, handled, reply_of, replies_of, slip_of, given, answers_head, persistence_of, is_head, outcome_answer, rejected_of, status_for, count_of, bypassed_of, breaks_a_rule, summary_of, samples_of, tallies_of}
-use Rattle.reference.specs.Explaining.{first_offered, method_of, row_of}
+use Rattle.reference.specs.Explaining.{has_pools, first_offered, method_of, row_of}
 use Rattle.slim.specs.declared.queries.Queries.{Queries}
 use Rattle.slim.specs.declared.queries.Queries.TheVariants.{Kept, Dropped}
 use Rattle.slim.specs.Targets.{kept_target, kept_what, kept_arrival, kept_arrivals}
@@ -141,7 +141,8 @@ first_same : (q : Queries) (files : List File) (t : Terms) (earlier : List Arriv
 first_same q files t earlier [] = refl
 first_same q files t earlier (o ∷ offers) = λ i. Some (record {
   service = o.service;
-  found = outlook (station_for t) (decided (station_for t) (offers_same q files t earlier i)) o.tier o.tick;
+  pool = o.pool;
+  found = outlook (station_for t) (decided (station_for t) (offers_same q files t earlier i)) o.pool o.tier o.tick;
   decision = decide (station_for t) (decided (station_for t) (offers_same q files t earlier i)) o;
 })
 
@@ -156,6 +157,7 @@ row_same q files t earlier a =
       tick = tick_in t a.origin;
       tier = a.origin.tier;
       status = status i;
+      pools = has_pools t;
       offered = offered i;
     }
 

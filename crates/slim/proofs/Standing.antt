@@ -1,18 +1,14 @@
 -- The slim records of one more record.
-use Rattle.std.proofs.Common.{◌≡◌, ◌≢◌, ℕ, zero, suc, ◌+◌, ◌<◌, ◌≤◌, inl, inr, cond, List, [], ◌∷◌, ◌++◌, length, map, take, drop, get_or, Option, Result, Ok, Err, refl, sym, ap, ap₂, ◌∙◌, subst, arith, append-nil, flat_map}
-use Rattle.std.specs.Io.KnownBytes.{Appends}
+use Rattle.std.proofs.Common.{◌≡◌, ◌≢◌, ℕ, zero, suc, ◌+◌, ◌≤◌, inl, inr, cond, List, [], ◌∷◌, ◌++◌, length, Option, Result, Ok, Err, refl, sym, ap, ap₂, ◌∙◌, subst, arith, append-nil}
 use Rattle.std.proofs.lemmas.Bool.Decides.{eqb_tells}
-use Rattle.std.proofs.lemmas.List.{length-append, length-map, map-append, take-append-drop}
+use Rattle.std.proofs.lemmas.List.{length-append, length-map, map-append}
 use Rattle.std.proofs.lemmas.List.Elements.{All-push, All-nil}
 use Rattle.std.proofs.lemmas.List.Sums.{sum_by-cons}
-use Rattle.std.proofs.lemmas.Grind.{flat_map-append}
-use Rattle.std.proofs.Math.Seq.{take-suc}
 use Rattle.std.specs.Result.{IsErrAnd}
 use Rattle.devices.specs.Devices.{AppendsPrefix, WritesPrefix, CountsBy}
-use Rattle.devices.proofs.Appending.{appends_then, prefix_then, prefix_first}
 use Rattle.captures.specs.declared.record.Record.{Record}
 use Rattle.captures.specs.declared.record.Record.TheVariants.{Piece, End, Tier}
-use Rattle.captures.specs.Reference.{connection_of, connection_now, of_connection, record_text, used_once, used_once_after}
+use Rattle.captures.specs.Reference.{connection_of, connection_now, of_connection, used_once, used_once_after}
 use Rattle.captures.specs.Captures.{size_of, sizes_of}
 use Rattle.captures.specs.CaptureFaults.{longest_text}
 use Rattle.http_requests.specs.declared.messages.Message.{Message}
@@ -30,7 +26,7 @@ use Rattle.slim.specs.Blocks.{block_of}
 use Rattle.slim.specs.Slims.{slim_record, slim_records, slimmed}
 use Rattle.slim.specs.Targets.{kept_arrivals, kept_what}
 use Rattle.slim.specs.declared.queries.Queries.{Queries}
-use Rattle.slim.specs.Steps.{whats_of, whats_kept, piece_text, pieces_text, whats_on, Kept, Stands, StandsMore, SlimsRecord, SlimsRecordInPart}
+use Rattle.slim.specs.Steps.{whats_of, whats_kept, whats_on, Kept, Stands, StandsMore}
 use Rattle.slim.proofs.Laid.{AreSaid, are_said_kept, whats_said}
 use Rattle.slim.proofs.KeptTargets.{kept_messages, kept_more, kept_none, kept_placed, kept_with, whats_of_kept, whats_on_kept}
 use Rattle.slim.proofs.Placing.{placed, slim_placed}
@@ -84,7 +80,27 @@ longer_by queries records r arrivals id o ms are =
     ∙ slim_placed records r (kept_arrivals queries arrivals) id o (kept_messages queries ms) (kept_placed queries (length records) arrivals (placed records arrivals are))
     ∙ ap (λ w. slimmed queries records arrivals ++ slim_record w r) (whats_of_kept queries ms)
 
-pub more_piece : (queries : Queries) (tick conn : ℕ) (bytes : List ℕ) (ms : List Message) (records : List Record) (arrivals : List Arrival) (before after : List Connection) → IsNumber conn
+-- messages end one after another, so they are no more than the bytes
+few_end : (from to : ℕ) (ms : List Message) → from ≤ to → EndBetween from to ms → length ms + from ≤ to
+few_end from to [] le ends = omega (arith, le)
+few_end from to (m ∷ ms) le ends =
+    let more = few_end m.end to ms ends.1 ends.2 in let lt = ends.0 in omega (arith, more, lt)
+
+few_messages : (queries : Queries) (conn : ℕ) (bytes : List ℕ) (ms : List Message) (records : List Record) (arrivals : List Arrival) (before after : List Connection) → IsNumber conn
+    → Took conn before after bytes ms → Stands queries records arrivals before → length ms ≤ length bytes
+few_messages queries conn bytes ms records arrivals before after number took stands =
+    let read = took.own (text_now conn records) (messages_now conn records arrivals) (stands.reads.each conn number) in
+    let n = length (text_now conn records) in
+    let few = few_end n (n + length bytes) ms (omega arith) read.in_piece in
+    omega (arith, few)
+
+abbrev slim_piece : ℕ → ℕ → Meaning → Record
+slim_piece tick conn what = Piece tick conn (block_of what)
+
+count_pieces : (queries : Queries) (tick conn : ℕ) (ms : List Message) → length (slim_record (whats_kept queries ms) (Piece tick conn [])) ≡ length ms
+count_pieces queries tick conn ms = length-map (whats_kept queries ms) (slim_piece tick conn) ∙ length-map (whats_of ms) (kept_what queries) ∙ length-map ms what_in
+
+more_piece : (queries : Queries) (tick conn : ℕ) (bytes : List ℕ) (ms : List Message) (records : List Record) (arrivals : List Arrival) (before after : List Connection) → IsNumber conn
     → Took conn before after bytes ms → Stands queries records arrivals before → StandsMore queries records arrivals (Piece tick conn bytes) (slim_record (whats_kept queries ms) (Piece tick conn [])) after
 more_piece queries tick conn bytes ms records arrivals before after number took stands =
     let r = Piece tick conn bytes in
@@ -108,7 +124,14 @@ more_piece queries tick conn bytes ms records arrivals before after number took 
         kept = subst (λ (p : List Record × List Arrival). Kept p.0 (records ++ r ∷ []) p.1) (λ i. (slim i, all i)) kept;
       };
       more_is = longer;
+      few = let few = few_messages queries conn bytes ms records arrivals before after number took stands in let len = count_pieces queries tick conn ms in omega (arith, few, len);
     }
+
+pub piece_stands : (queries : Queries) (tick conn : ℕ) (bytes : List ℕ) (ms : List Message) (records : List Record) (arrivals : List Arrival) (r : Record) (before after : List Connection) → r ≡ Piece tick conn bytes → IsNumber conn
+    → Took conn before after bytes ms → Stands queries records arrivals before → StandsMore queries records arrivals r (slim_record (whats_kept queries ms) (Piece tick conn [])) after
+piece_stands queries tick conn bytes ms records arrivals r before after is number took stands =
+    subst (λ (x : Record). StandsMore queries records arrivals x (slim_record (whats_kept queries ms) (Piece tick conn [])) after) (sym is)
+    (more_piece queries tick conn bytes ms records arrivals before after number took stands)
 
 -- a record that brings no message
 no_more : (queries : Queries) (records : List Record) (arrivals : List Arrival) (r : Record) (connections : List Connection) → IsNumber (connection_of r)
@@ -127,41 +150,8 @@ no_more queries records arrivals r connections number next are is numbers kept =
         kept = subst (λ (slim : List Record). Kept slim (records ++ r ∷ []) (kept_arrivals queries arrivals)) (sym alone) kept;
       });
       more_is = longer;
+      few = omega arith;
     }
-
--- ---- the pieces of a list of messages
-
-pieces_join : (queries : Queries) (tick conn : ℕ) (xs ys : List Message) → pieces_text queries tick conn (xs ++ ys) ≡ pieces_text queries tick conn xs ++ pieces_text queries tick conn ys
-pieces_join queries tick conn xs ys =
-    ap (λ w. flat_map record_text (map (λ what. Piece tick conn (block_of what)) w))
-    (ap (map (kept_what queries)) (map-append (λ m. m.what) xs ys) ∙ map-append (kept_what queries) (whats_of xs) (whats_of ys))
-    ∙ ap (flat_map record_text) (map-append (λ what. Piece tick conn (block_of what)) (whats_kept queries xs) (whats_kept queries ys))
-    ∙ flat_map-append record_text (map (λ what. Piece tick conn (block_of what)) (whats_kept queries xs)) (map (λ what. Piece tick conn (block_of what)) (whats_kept queries ys))
-
-pieces_step : (queries : Queries) (tick conn : ℕ) (ms : List Message) (i : ℕ) (d : Message) → i < length ms → pieces_text queries tick conn (take (i + 1) ms) ≡ pieces_text queries tick conn (take i ms) ++ piece_text queries tick conn (get_or ms i d).what
-pieces_step queries tick conn ms i d lt =
-    let e : i + 1 ≡ suc i = omega arith in
-    rw (e, take-suc ms i d lt) (pieces_join queries tick conn (take i ms) (get_or ms i d ∷ []) ∙ ap (λ t. pieces_text queries tick conn (take i ms) ++ t) (append-nil (piece_text queries tick conn (get_or ms i d).what)))
-
-pub pieces_more : (queries : Queries) (tick conn : ℕ) (ms : List Message) (i : ℕ) (m : Message) (old mid new : Option (List ℕ)) → i < length ms → m ≡ get_or ms i m → Appends old mid (pieces_text queries tick conn (take i ms))
-    → Appends mid new (piece_text queries tick conn m.what) → Appends old new (pieces_text queries tick conn (take (i + 1) ms))
-pieces_more queries tick conn ms i m old mid new lt is before one =
-    let same : piece_text queries tick conn m.what ≡ piece_text queries tick conn (get_or ms i m).what = ap (λ x. piece_text queries tick conn x.what) is in
-    subst (λ (t : List ℕ). Appends old new t) (sym (pieces_step queries tick conn ms i m lt))
-    (appends_then old mid new _ _ before (subst (λ (t : List ℕ). Appends mid new t) same one))
-
-pub pieces_part : (queries : Queries) (tick conn : ℕ) (ms : List Message) (i : ℕ) (m : Message) (old mid new : Option (List ℕ)) → i < length ms → m ≡ get_or ms i m → Appends old mid (pieces_text queries tick conn (take i ms))
-    → AppendsPrefix mid new (piece_text queries tick conn m.what) → AppendsPrefix old new (pieces_text queries tick conn ms)
-pieces_part queries tick conn ms i m old mid new lt is before one =
-    let same : piece_text queries tick conn m.what ≡ piece_text queries tick conn (get_or ms i m).what = ap (λ x. piece_text queries tick conn x.what) is in
-    let first : AppendsPrefix old new (pieces_text queries tick conn (take (i + 1) ms)) =
-    subst (λ (t : List ℕ). AppendsPrefix old new t) (sym (pieces_step queries tick conn ms i m lt))
-    (prefix_then old mid new _ _ before (subst (λ (t : List ℕ). AppendsPrefix mid new t) same one)) in
-    subst (λ (t : List ℕ). AppendsPrefix old new t)
-    (sym (pieces_join queries tick conn (take (i + 1) ms) (drop (i + 1) ms)) ∙ ap (pieces_text queries tick conn) (take-append-drop (i + 1) ms))
-    (prefix_first old new (pieces_text queries tick conn (take (i + 1) ms)) (pieces_text queries tick conn (drop (i + 1) ms)) first)
-
--- ---- a fault that `?` has passed on
 
 pub err_prefix : {T E : Type 0} (Q : E → Type 0) (old new : Option (List ℕ)) (text : List ℕ) (r : Result T E) → IsErrAnd r Q → AppendsPrefix old new text → WritesPrefix old new r text
 err_prefix Q old new text (Ok x) h part = absurd h
@@ -217,48 +207,6 @@ has_room queries records arrivals connections c n low stands room =
 pub number_of : (r q : Record) → r ≡ q → IsNumber (connection_of r) → IsNumber (connection_of q)
 number_of r q is low = subst (λ (x : Record). IsNumber (connection_of x)) is low
 
--- messages end one after another, so they are no more than the bytes
-few_end : (from to : ℕ) (ms : List Message) → from ≤ to → EndBetween from to ms → length ms + from ≤ to
-few_end from to [] le ends = omega (arith, le)
-few_end from to (m ∷ ms) le ends =
-    let more = few_end m.end to ms ends.1 ends.2 in let lt = ends.0 in omega (arith, more, lt)
-
-few_messages : (queries : Queries) (conn : ℕ) (bytes : List ℕ) (ms : List Message) (records : List Record) (arrivals : List Arrival) (before after : List Connection) → IsNumber conn
-    → Took conn before after bytes ms → Stands queries records arrivals before → length ms ≤ length bytes
-few_messages queries conn bytes ms records arrivals before after number took stands =
-    let read = took.own (text_now conn records) (messages_now conn records arrivals) (stands.reads.each conn number) in
-    let n = length (text_now conn records) in
-    let few = few_end n (n + length bytes) ms (omega arith) read.in_piece in
-    omega (arith, few)
-
-abbrev slim_piece : ℕ → ℕ → Meaning → Record
-slim_piece tick conn what = Piece tick conn (block_of what)
-
-pub piece_slims : (queries : Queries) (tick conn count : ℕ) (bytes : List ℕ) (ms : List Message) (records : List Record) (arrivals : List Arrival) (r : Record) (before after : List Connection) (old new : Option (List ℕ))
-    → r ≡ Piece tick conn bytes → IsNumber conn → Took conn before after bytes ms → Stands queries records arrivals before → Appends old new (pieces_text queries tick conn ms) → count ≡ length ms
-    → SlimsRecord queries records arrivals r after old new count
-piece_slims queries tick conn count bytes ms records arrivals r before after old new is number took stands written counted =
-    let whats = whats_kept queries ms in
-    let few = few_messages queries conn bytes ms records arrivals before after number took stands in
-    let len : length (slim_record whats (Piece tick conn [])) ≡ length ms = length-map whats (slim_piece tick conn) ∙ length-map (whats_of ms) (kept_what queries) ∙ length-map ms what_in in
-    subst (λ (x : Record). SlimsRecord queries records arrivals x after old new count) (sym is) (record {
-      more = slim_record whats (Piece tick conn []);
-      stands = more_piece queries tick conn bytes ms records arrivals before after number took stands;
-      written = written;
-      count_is = counted ∙ sym len;
-      few = omega (arith, few, len);
-    })
-
-pub piece_slims_part : (queries : Queries) (tick conn : ℕ) (bytes : List ℕ) (ms : List Message) (records : List Record) (arrivals : List Arrival) (r : Record) (before after : List Connection) (old new : Option (List ℕ))
-    → r ≡ Piece tick conn bytes → IsNumber conn → Took conn before after bytes ms → Stands queries records arrivals before → AppendsPrefix old new (pieces_text queries tick conn ms)
-    → SlimsRecordInPart queries records arrivals r after old new
-piece_slims_part queries tick conn bytes ms records arrivals r before after old new is number took stands written =
-    subst (λ (x : Record). SlimsRecordInPart queries records arrivals x after old new) (sym is) (record {
-      more = slim_record (whats_kept queries ms) (Piece tick conn []);
-      stands = more_piece queries tick conn bytes ms records arrivals before after number took stands;
-      written = written;
-    })
-
 pub more_end : (queries : Queries) (tick conn n : ℕ) (records : List Record) (arrivals : List Arrival) (r : Record) (before after : List Connection) → r ≡ End tick conn → n ≡ conn → IsNumber conn
     → connection_at after n ≡ Silent → ((c : ℕ) → c ≢ n → connection_at after c ≡ connection_at before c) → Stands queries records arrivals before → StandsMore queries records arrivals r (r ∷ []) after
 more_end queries tick conn n records arrivals r before after is named number silent others stands =
@@ -273,24 +221,6 @@ more_tier queries conn tier records arrivals r connections is number stands =
     let e = Tier conn tier in
     let next = stand_tier records arrivals (connection_at connections) conn tier (stand_of queries records arrivals connections stands) in
     subst (λ (x : Record). StandsMore queries records arrivals x (x ∷ []) connections) (sym is) (no_more queries records arrivals e connections number next stands.arrived refl stands.numbers (kept_tier (slimmed queries records arrivals) records (kept_arrivals queries arrivals) conn tier number stands.kept))
-
-pub one_slims : (queries : Queries) (records : List Record) (arrivals : List Arrival) (r : Record) (connections : List Connection) (old new : Option (List ℕ)) → StandsMore queries records arrivals r (r ∷ []) connections
-    → Appends old new (record_text r) → SlimsRecord queries records arrivals r connections old new 1
-one_slims queries records arrivals r connections old new stands written = record {
-  more = r ∷ [];
-  stands = stands;
-  written = subst (λ (t : List ℕ). Appends old new t) (sym (append-nil (record_text r))) written;
-  count_is = refl;
-  few = omega arith;
-}
-
-pub one_slims_part : (queries : Queries) (records : List Record) (arrivals : List Arrival) (r : Record) (connections : List Connection) (old new : Option (List ℕ)) → StandsMore queries records arrivals r (r ∷ []) connections
-    → AppendsPrefix old new (record_text r) → SlimsRecordInPart queries records arrivals r connections old new
-one_slims_part queries records arrivals r connections old new stands written = record {
-  more = r ∷ [];
-  stands = stands;
-  written = subst (λ (t : List ℕ). AppendsPrefix old new t) (sym (append-nil (record_text r))) written;
-}
 
 pub took_by : (n conn : ℕ) (before after : List Connection) (piece bytes : List ℕ) (out : List Message) → n ≡ conn → piece ≡ bytes
     → ((text : List ℕ) (sofar : List Message) → HasRead (connection_at before n) text sofar → ReadMore text sofar (connection_at after n) piece out)

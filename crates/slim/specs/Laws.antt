@@ -1,5 +1,5 @@
 -- What a canonical block says to whoever reads it, and what a slim text becomes.
-use Rattle.std.specs.Prelude.{◌≡◌, ℕ, ◌≤◌, ◌==◌, false, List, [], ◌∷◌, ◌++◌, length, Option, Some}
+use Rattle.std.specs.Prelude.{◌≡◌, ℕ, ◌<◌, ◌≤◌, ◌==◌, false, List, [], ◌∷◌, ◌++◌, length, Option, Some}
 use Rattle.std.specs.Io.KnownBytes.{Appends}
 use Rattle.std.specs.List.{list_any}
 use Rattle.paths.specs.Reference.{asked, question_mark}
@@ -11,10 +11,11 @@ use Rattle.reference.specs.declared.summary.Outcome.{Outcome}
 use Rattle.captures.specs.declared.version.Version.{Version}
 use Rattle.captures.specs.declared.record.Record.{Record}
 use Rattle.captures.specs.declared.version.Version.TheVariants.{Traffic}
-use Rattle.captures.specs.Reference.{IsCapture, IsCaptureText, capture_text, format_of, used_once}
+use Rattle.captures.specs.declared.capture_fault.CaptureFault.{CaptureFault}
+use Rattle.captures.specs.Reference.{IsCaptureText, used_once}
 use Rattle.captures.specs.Upgrades.{later}
 use Rattle.arrivals.specs.Reference.{Arrival, AreArrivals}
-use Rattle.slim.specs.Slims.{KeepsArrivals, Slims, slim_text, slimmed}
+use Rattle.slim.specs.Slims.{IsTooLarge, KeepsArrivals, slimmed}
 use Rattle.slim.specs.Targets.{kept_arrivals, kept_what, without_query}
 use Rattle.slim.specs.declared.queries.Queries.{Queries}
 use Rattle.slim.specs.declared.queries.Queries.TheVariants.{Kept}
@@ -58,7 +59,8 @@ QueriesChangeNothing = (queries : Queries) (files : List File) (terms : Terms) (
     × (summary_of files terms (kept_arrivals queries arrivals) ≡ summary_of files terms arrivals)
     × (rows_but_targets files terms [] (kept_arrivals queries arrivals) ≡ rows_but_targets files terms [] arrivals)
 
--- the one text is the slim text of the other
+-- The one text is the slim text of the other, as `Slims` says: its records keep the arrivals, and it is a text of its
+-- format.
 pub record IsSlim (queries : Queries) (to : Version) (old new : List ℕ) : Type 0 where
   pub version : Version
   pub start : ℕ
@@ -66,27 +68,20 @@ pub record IsSlim (queries : Queries) (to : Version) (old new : List ℕ) : Type
   pub capture : IsCaptureText version old start records
   pub arrivals : List Arrival
   pub arrived : AreArrivals (used_once records) arrivals
-  pub text : new ≡ slim_text queries (later to version) start records arrivals
+  pub kept : KeepsArrivals queries records arrivals
+  pub text : IsCaptureText (later to version) new start (slimmed queries records arrivals)
 
--- its records keep the arrivals, and the rules of its format, as `Slims` says; and the format has room for it
-pub record IsKept {queries : Queries} {to : Version} {old new : List ℕ}
-    (slim : IsSlim queries to old new) : Type 0 where
-  pub kept : KeepsArrivals queries slim.records slim.arrivals
-  pub rules : IsCapture (later to slim.version) slim.start (slimmed queries slim.records slim.arrivals)
-  pub size : length new ≤ (format_of (later to slim.version)).max_text_bytes
-
--- A traffic text has room for the slim text of each text of at most 135,000,000,000 bytes.
+-- A slim text that is too large for a traffic text is of a text of more than 135,000,000,000 bytes.
 abbrev pub SlimFits : Type 0
-SlimFits = (queries : Queries) (to : Version) (input old new : Option (List ℕ)) (s : Slims queries to input old new)
-    → later to s.capture.version ≡ Traffic
-    → length (capture_text s.capture.version s.capture.start s.capture.records) ≤ 135000000000
-    → length (slim_text queries Traffic s.capture.start s.capture.records s.arrivals)
-    ≤ (format_of Traffic).max_text_bytes
+SlimFits = (queries : Queries) (to : Version) (text : List ℕ) (old new : Option (List ℕ)) (f : CaptureFault)
+    (t : IsTooLarge queries to (Some text) old new f)
+    → later to t.read.version ≡ Traffic
+    → 135000000000 < length text
 
 -- A slim text given again comes out unchanged.
 abbrev pub SlimAgain : Type 0
-SlimAgain = (queries : Queries) (to : Version) (old new again : List ℕ) (first : IsSlim queries to old new)
-    → IsKept first → IsSlim queries to new again → again ≡ new
+SlimAgain = (queries : Queries) (to : Version) (old new again : List ℕ)
+    → IsSlim queries to old new → IsSlim queries to new again → again ≡ new
 
 -- A text of recorded traffic and its slim text have the same answers but for their format, whatever the snapshot and
 -- the settings: the same replies, byte for byte, the same messages turned away, the same summary; and the same table of
@@ -94,20 +89,19 @@ SlimAgain = (queries : Queries) (to : Version) (old new again : List ℕ) (first
 abbrev pub SlimKeepsReplies : Type 0
 SlimKeepsReplies = (files : List File) (terms : Terms) (queries : Queries) (to : Version) (text slim : List ℕ)
     (old new : Option (List ℕ))
-    (outcome : Outcome) (s : IsSlim queries to text slim) → IsKept s
+    (outcome : Outcome) (s : IsSlim queries to text slim)
     → Answers files terms (Some text) old new outcome
     → Answers files terms (Some slim) old new (told_in (later to s.version) outcome)
 
 abbrev pub SlimKeepsRows : Type 0
 SlimKeepsRows = (files : List File) (terms : Terms) (to : Version) (text slim : List ℕ) (old new : Option (List ℕ))
-    (outcome : Outcome)
-    (s : IsSlim Kept to text slim) → IsKept s
+    (outcome : Outcome) (s : IsSlim Kept to text slim)
     → Explains files terms (Some text) old new outcome
     → Explains files terms (Some slim) old new (told_in (later to s.version) outcome)
 
 abbrev pub SlimKeepsDecisions : Type 0
 SlimKeepsDecisions = (files : List File) (terms : Terms) (queries : Queries) (to : Version) (text slim : List ℕ)
-    (old new slim_new : Option (List ℕ)) (outcome : Outcome) (s : IsSlim queries to text slim) → IsKept s
+    (old new slim_new : Option (List ℕ)) (outcome : Outcome) (s : IsSlim queries to text slim)
     → Explains files terms (Some text) old new outcome
     → Appends old slim_new (table files terms (kept_arrivals queries s.arrivals))
     → Explains files terms (Some slim) old slim_new (told_in (later to s.version) outcome)

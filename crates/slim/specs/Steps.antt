@@ -1,10 +1,7 @@
 -- What one more record does to the slim text.
-use Rattle.std.specs.Prelude.{◌≡◌, ℕ, ◌+◌, ◌<◌, ◌≤◌, All, List, [], ◌∷◌, ◌++◌, Option, map, flat_map, length, count_by}
-use Rattle.std.specs.Io.KnownBytes.{Appends}
-use Rattle.devices.specs.Devices.{AppendsPrefix}
+use Rattle.std.specs.Prelude.{◌≡◌, ℕ, ◌+◌, ◌<◌, ◌≤◌, All, List, [], ◌∷◌, ◌++◌, map, flat_map, length, count_by}
 use Rattle.captures.specs.declared.record.Record.{Record}
-use Rattle.captures.specs.declared.record.Record.TheVariants.{Piece}
-use Rattle.captures.specs.Reference.{record_text, used_once, is_end_of}
+use Rattle.captures.specs.Reference.{used_once, is_end_of}
 use Rattle.captures.specs.Captures.{size_of}
 use Rattle.http_requests.specs.declared.messages.Message.{Message}
 use Rattle.http_requests.specs.declared.messages.Meaning.{Meaning}
@@ -12,7 +9,7 @@ use Rattle.arrivals.specs.Reference.{Arrival, AreArrivals, text_of, messages_of}
 use Rattle.arrivals.specs.Connections.{HaveRead, HaveNumbers, IsNumber, tier_now}
 use Rattle.arrivals.specs.declared.connections.Connection.{Connection}
 use Rattle.slim.specs.Blocks.{block_of}
-use Rattle.slim.specs.Slims.{seen, slim_record, slim_records, slimmed}
+use Rattle.slim.specs.Slims.{seen, slim_records, slimmed}
 use Rattle.slim.specs.Targets.{kept_arrivals, kept_what}
 use Rattle.slim.specs.declared.queries.Queries.{Queries}
 
@@ -23,15 +20,6 @@ whats_of messages = map (λ m. m.what) messages
 -- the same with what stays of their targets
 abbrev pub whats_kept : Queries → List Message → List Meaning
 whats_kept queries messages = map (kept_what queries) (whats_of messages)
-
--- the text of the slim piece of a message
-abbrev pub piece_text : Queries → ℕ → ℕ → Meaning → List ℕ
-piece_text queries tick conn what = record_text (Piece tick conn (block_of (kept_what queries what)))
-
--- the text of the slim pieces of messages that arrive on a connection at a tick
-abbrev pub pieces_text : Queries → ℕ → ℕ → List Message → List ℕ
-pieces_text queries tick conn messages =
-    flat_map record_text (slim_record (whats_kept queries messages) (Piece tick conn []))
 
 -- the text of canonical blocks, one after another, and their messages, where the first begins at a place
 abbrev pub text_of_blocks : List Meaning → List ℕ
@@ -72,25 +60,11 @@ pub record Stands (queries : Queries) (records : List Record) (arrivals : List A
   pub arrived : AreArrivals (used_once records) arrivals
   pub kept : Kept (slimmed queries records arrivals) records (kept_arrivals queries arrivals)
 
--- one more record came, whose slim records are these: the connections stand so after it
+-- One more record came, whose slim records are these, no more than it has bytes, and one besides: the connections stand
+-- so after it.
 pub record StandsMore (queries : Queries) (records : List Record) (arrivals : List Arrival) (r : Record)
     (more : List Record) (connections : List Connection) : Type 0 where
   pub came : List Arrival
   pub stands : Stands queries (records ++ r ∷ []) (arrivals ++ came) connections
   pub more_is : slimmed queries (records ++ r ∷ []) (arrivals ++ came) ≡ slimmed queries records arrivals ++ more
-
--- so many slim records of one more record were written, no more than it has bytes, and one besides
-pub record SlimsRecord (queries : Queries) (records : List Record) (arrivals : List Arrival) (r : Record)
-    (connections : List Connection) (old new : Option (List ℕ)) (count : ℕ) : Type 0 where
-  pub more : List Record
-  pub stands : StandsMore queries records arrivals r more connections
-  pub written : Appends old new (flat_map record_text more)
-  pub count_is : count ≡ length more
   pub few : length more ≤ size_of r + 1
-
--- a prefix of their texts was written
-pub record SlimsRecordInPart (queries : Queries) (records : List Record) (arrivals : List Arrival) (r : Record)
-    (connections : List Connection) (old new : Option (List ℕ)) : Type 0 where
-  pub more : List Record
-  pub stands : StandsMore queries records arrivals r more connections
-  pub written : AppendsPrefix old new (flat_map record_text more)

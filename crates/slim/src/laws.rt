@@ -23,7 +23,7 @@ pub fn queries_change_nothing()
 {}
 
 /// A traffic text has room for the slim text of a text of at most 135 GB. A capture's text has room for fewer bytes: a
-/// slim text of one may be too long for its format, where it holds many short requests in few pieces.
+/// slim text may be too large for it, where it holds many short requests in few pieces.
 pub fn slim_fits()
     ensures { SlimFits }
 {}

@@ -5,6 +5,7 @@ mod blocks;
 mod dates;
 mod laws;
 mod queries;
+mod rooms;
 mod slimming;
 
 pub use blocks::{canonical_block, kept_block};

@@ -13,12 +13,12 @@ use Rattle.replay.proofs.plain.replay_writing.Goals as goal
 pub returns-in_err-begin-clause-fault : goal.returns-in_err-begin-clause-fault
 returns-in_err-begin-clause-fault g c =
     passed_on c.from_residual.result _ _
-    (λ f same. rw same (short_leaves (g.T.Format.texts g.F.Tree.files c.args.settings.now.served) c.args.reader.now.bytes _ _ _ c.in_err-begin.field-0.0 c.in_err-begin.ensures.own (inl (c.in_err-begin.ensures.part g.F.Tree.files c.args.settings.now.served))))
+    (λ f same. rw same (short_leaves (g.T.Format.texts g.F.Tree.files c.args.settings.now.served) c.args.reader.now.bytes _ _ _ c.in_err-begin.field-0.0 c.in_err-begin.ensures.own (inl (c.in_err-begin.ensures.part g.F.Tree.files))))
     c.from_residual.ensures.1
 
 pub returns-in-Err-clause-fault : goal.returns-in-Err-clause-fault
 returns-in-Err-clause-fault g c =
-    let written = c.in_ok-begin.ensures.written g.F.Tree.files c.args.settings.now.served in
+    let written = c.in_ok-begin.ensures.written g.F.Tree.files in
     rw c.from.ensures
     (leaves_reported (g.T.Format.texts g.F.Tree.files c.args.settings.now.served) c.args.reader.now.bytes _ c.args.writer.now.bytes c.begin.new.writer.bytes c.in-Err.fault
     (halts_first (g.T.Format.texts g.F.Tree.files c.args.settings.now.served) c.args.reader.now.bytes _ c.args.writer.now.bytes c.begin.new.writer.bytes _ written c.in-Err.ensures.fault.at c.in-Err.ensures.fault.foreseen (rw c.in-Err.is at c.open.follows.holds-at-none).1)
@@ -27,7 +27,7 @@ returns-in-Err-clause-fault g c =
 pub returns-in_err-controller_of-clause-fault : goal.returns-in_err-controller_of-clause-fault
 returns-in_err-controller_of-clause-fault g c =
     passed_on c.from_residual-in_err-controller_of.result _ _
-    (λ f same. rw same (inl (prefix_all c.args.writer.now.bytes c.begin.new.writer.bytes _ (c.in_ok-begin.ensures.written g.F.Tree.files c.args.settings.now.served))))
+    (λ f same. rw same (inl (prefix_all c.args.writer.now.bytes c.begin.new.writer.bytes _ (c.in_ok-begin.ensures.written g.F.Tree.files))))
     c.from_residual-in_err-controller_of.ensures.1
 
 pub loop-next-init : goal.loop-next-init
@@ -40,7 +40,7 @@ loop-next-init g c =
         rw c.start.ensures c.in-Ok.ensures.ok.after,
         serves_none files terms c.new-connections.result _ c.new-connections.ensures (stands_none files terms _ (c.in_ok-controller_of.ensures.station) c.in_ok-controller_of.ensures.fits c.in_ok-controller_of.ensures.clock c.new.ensures),
         tiers_none c.new-tiers.result c.new-tiers.ensures,
-        text_begun (g.T.Format.texts files terms) c.start.result c.args.writer.now.bytes c.begin.new.writer.bytes (c.in_ok-begin.ensures.texts files terms) (c.in_ok-begin.ensures.written files terms),
+        text_begun (g.T.Format.texts files terms) c.start.result c.args.writer.now.bytes c.begin.new.writer.bytes (c.in_ok-begin.ensures.texts files terms) (c.in_ok-begin.ensures.written files),
         c.version-version.ensures,
       ),
       refl,
