@@ -259,15 +259,15 @@ def check_threads(report, program, replay, task, library):
 
 
 def staged_replays():
-    """Replays of the staged engine: what they have work for, and how many threads they start at least. Each of the crew
-    is started at the beginning, one for each processor but the calling thread's; those that cut come with the work."""
+    """Replays of the staged engine: what they have work for, and how many threads they start at least. The helpers
+    are started at the beginning, one for each processor but the calling thread's; those that cut come with the work."""
     large = [LARGE_REQUEST] * LARGE
     files = [LARGE_REQUEST] * 256 + [REQUEST.replace(b"a.txt", b"b.txt")] * 70
-    crew = PROCESSORS - 1
-    yield "small batches", Replay([REQUEST] * 300), crew
-    yield "a large batch", Replay(large, LARGE_SETTINGS), crew + 1
-    yield "the front floor alone", Replay([LONG_TARGET] * 1500, ALONE + NARROW_BACK, 1), crew
-    yield "the back floor alone", Replay(files, ALONE + NARROW_FRONT, 1, LARGE_FILE), crew
+    helpers = PROCESSORS - 1
+    yield "small batches", Replay([REQUEST] * 300), helpers
+    yield "a large batch", Replay(large, LARGE_SETTINGS), helpers + 1
+    yield "the front floor alone", Replay([LONG_TARGET] * 1500, ALONE + NARROW_BACK, 1), helpers
+    yield "the back floor alone", Replay(files, ALONE + NARROW_FRONT, 1, LARGE_FILE), helpers
     yield "one worker on each floor", Replay(large, ALONE + NARROW_FRONT + NARROW_BACK), 0
 
 

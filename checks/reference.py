@@ -760,6 +760,21 @@ class Tier:
         return Control(last[-1][0], percentile, smoothed, rate)
 
 
+class PoolFigures:
+    """What a pool has done (docs/FORMATS.md, Report)."""
+
+    def __init__(self):
+        self.starts = []  # of the admitted requests, in their order, in which they never fall
+        self.busy = 0
+        self.longest = 0
+
+    def count(self, tick, start, service_time):
+        """Count a request that comes at a tick and is begun at `start`: all wait that are begun later."""
+        self.starts.append(start)
+        self.busy += service_time
+        self.longest = max(self.longest, len(self.starts) - bisect.bisect_right(self.starts, tick))
+
+
 class Admission:
     """Who is turned away, and the servers of each pool (docs/RULES.md, Service times and admission)."""
 
@@ -769,6 +784,7 @@ class Admission:
         self.finish = 0
         servers = [settings["costs.servers"]] + [pool.servers for pool in settings["pool"]]
         self.free = [[0] * count for count in servers]
+        self.figures = [PoolFigures() for _ in servers]
         self.samples = []
 
     def offer(self, tier, tick, service_time, delay, pool):
@@ -777,6 +793,7 @@ class Admission:
         if not self.tiers[tier].takes(tick):
             return False
         self.finish = max(tick, self.free_at(pool)) + service_time
+        self.figures[pool].count(tick, self.finish - service_time, service_time)
         heapq.heapreplace(self.free[pool], self.finish)
         self.samples.append(self.finish - tick + delay)
         self.tiers[tier].serve(self.finish + delay, self.samples[-1])
@@ -886,6 +903,9 @@ def report_text(form, arrived, statuses, admission):
             lines.append("tier %d %d %d %d" % (number, len(tier.responses), tier.rejected, len(controls)))
         listed = list(enumerate(controls, 1))[-CONTROLS_SHOWN:] if form.again else enumerate(controls, 1)
         lines += ["control %d %d %d %d %d" % (place, *control) for place, control in listed]
+    if len(admission.figures) > 1:
+        told = enumerate(admission.figures)
+        lines += ["pool %d %d %d %d" % (number, len(pool.starts), pool.busy, pool.longest) for number, pool in told]
     lines += ["reject %d" % number for number in rejected]
     return "".join(line + "\n" for line in lines + ["end"]).encode()
 

@@ -44,6 +44,7 @@ SIZED = {"with_capacity", "reserve", "reserve_exact", "resize", "vec"}
 CALLS = {
     ("BufReader", "with_capacity"): "its contract: the kind of its error is `OutOfMemory`",
     ("LruCache", "put"): "Result<_, AllocFailed<_>>",
+    ("Vec", "push"): "Result<(), AllocFailed<_>>",
     ("Vec", "with_capacity"): "Result<_, AllocError>",
     ("macro", "format"): "a text's: Result<_, AllocError>",
     ("macro", "vec"): "Result<_, AllocError>",
@@ -67,13 +68,14 @@ REASONS = {
     ("settings/src/config_fault.rt", "MEMORY", "kind: ConfigFaultKind::Memory,"): "the name of this answer",
     ("stage_graph/src/floor.rt", "open", "return Err(Memory);"):
         "a sum of events that no 64 bits hold can't be reserved",
-    ("stage_graph/src/crew/passage.rt", "run", "return Err(Unrun::Memory);"):
+    ("stage_graph/src/helpers/passage.rt", "run", "return Err(Unrun::Memory);"):
         "a sum of items that no 64 bits hold: no memory holds so many",
-    ("stage_graph/src/crew/passage.rt", "taken_out", "return Err(Unrun::Memory);"): [
-        "the place of a lot that has no note: no floor ends with more items than were laid on it",
-        "a lot that isn't the noted one, or of which a step was refused memory: neither is among a floor's done items",
-        "fewer lots than were noted: no floor ends as a run without all its items"],
-    ("stage_graph/src/crew/sections.rt", "end", "return Err(Unrun::Memory);"): [
+    ("stage_graph/src/helpers/passage.rt", "taken_out", "return Err(Unrun::Memory);"): [
+        "the place of a chunk that has no note: no floor ends with more items than were laid on it",
+        "a chunk that isn't the noted one, or of which a step was refused memory: neither is among a floor's done "
+        "items",
+        "fewer chunks than were noted: no floor ends as a run without all its items"],
+    ("stage_graph/src/helpers/sections.rt", "end", "return Err(Unrun::Memory);"): [
         "no floor on the desk: one thread lays one and takes it back",
         "another floor than was laid: the same",
         "a worker that may not leave: the calling thread takes a floor back that has ended"],

@@ -1,12 +1,12 @@
 #!/usr/bin/env python3
-"""Checks sleeping and waking on a model of a crew, for small floors: no hang and no lost wake-up.
+"""Checks sleeping and waking on a model of helper threads, for small floors: no hang and no lost wake-up.
 
     checks/waiting.py [--mirrored]
 
-The model, for SPIN (Debian's `spin`, with `gcc`), is crew.pml in crates/stage_graph/model/: of threads that move one
-floor after another, also before a gate that may hold a lot; its head lists the words of a floor. Each floor of FLOORS
-is explored in all its interleavings: it has no state in which a thread sleeps for good, and at its end all lots are
-done, or it was stopped with every hand empty. Each fault of FAULTS, a bug put into the model, breaks this there, so
+The model, for SPIN (Debian's `spin`, with `gcc`), is helpers.pml in crates/stage_graph/model/: of threads that move one
+floor after another, also before a gate that may hold a chunk; its head lists the words of a floor. Each floor of FLOORS
+is explored in all its interleavings: it has no state in which a thread sleeps for good, and at its end all chunks are
+done, or it was stopped with every slot empty. Each fault of FAULTS, a bug put into the model, breaks this there, so
 that the model can tell. The functions that the model mirrors are known by a hash: where one has changed, the model has
 to be looked at first, and then MIRRORED be set to what --mirrored prints. Exits with 1 where something is otherwise. It
 takes about half a minute on four cores.
@@ -24,10 +24,10 @@ from lib.sources import TOP, read
 from lib.usage import parser_of
 
 CRATE = os.path.join(TOP, "crates", "stage_graph")
-MODEL = os.path.join(CRATE, "model", "crew.pml")
-SOURCES = ["run.rt", "crew.rt", "crew/desk.rt", "crew/sections.rt", "floor/causes.rt", "floor/events.rt",
+MODEL = os.path.join(CRATE, "model", "helpers.pml")
+SOURCES = ["run.rt", "helpers.rt", "helpers/desk.rt", "helpers/sections.rt", "floor/causes.rt", "floor/events.rt",
            "floor/held.rt"]
-MIRRORED = "7c56f2254542d09a"
+MIRRORED = "8425018c54149cb0"
 FLOORS = [
     "S=1 W0=2 C0=1 N=3 T=2 FLOORS=2 SPUR=1 REFUSE ERROR",
     "S=2 W0=1 W1=1 C0=1 C1=1 N=3 T=1 FLOORS=2 REFUSE ERROR",

@@ -10,6 +10,7 @@ pub mod OfferLemmas
 pub mod OrderLemmas
 pub mod PassLemmas
 pub mod PoolLemmas
+pub mod QueueLemmas
 pub mod RateLemmas
 pub mod RequestLemmas
 pub mod ServerLemmas

@@ -9,23 +9,10 @@ use Rattle.admission.specs.Reference.{Station, rules_of, Offer, Decided, Served,
 use Rattle.admission.specs.Servers.{HaveNoDelay, OneServerInOrder}
 use Rattle.admission.proofs.RequestLemmas.{served-push, of_tier-same, of_tier-other, of_tier-none}
 use Rattle.admission.specs.Pools.{AreOfPool}
+use Rattle.admission.specs.After.{RisesTo}
+use Rattle.admission.proofs.QueueLemmas.{rises-push, rises-widen}
 use Rattle.admission.proofs.PoolLemmas.{Chosen, finish_alone, all_none, all_next}
 use Rattle.admission.proofs.TurnLemmas.{Next, one_push}
-
--- numbers that don't fall, from lo up to hi
-unfoldable RisesTo : ℕ → ℕ → List ℕ → Type 0
-RisesTo lo hi [] = lo ≤ hi
-RisesTo lo hi (x ∷ xs) = (lo ≤ x) × RisesTo x hi xs
-
-rises-push : (lo hi x : ℕ) (xs : List ℕ) → RisesTo lo hi xs → hi ≤ x → RisesTo lo x (xs ++ x ∷ [])
-unfolding RisesTo
-rises-push lo hi x [] rises above = (omega arith, omega arith)
-rises-push lo hi x (y ∷ xs) rises above = (rises.0, rises-push y hi x xs rises.1 above)
-
-rises-widen : (lo hi higher : ℕ) (xs : List ℕ) → RisesTo lo hi xs → hi ≤ higher → RisesTo lo higher xs
-unfolding RisesTo
-rises-widen lo hi higher [] rises above = omega arith
-rises-widen lo hi higher (x ∷ xs) rises above = (rises.0, rises-widen x hi higher xs rises.1 above)
 
 -- ---- the finishes of a tier
 

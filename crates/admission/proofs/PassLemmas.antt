@@ -8,7 +8,7 @@ use Rattle.token_bucket.specs.Standing.{MAX_TICK}
 use Rattle.admission.specs.declared.policy.PolicyNumbers.{PolicyNumbers}
 use Rattle.admission.specs.Limits.{MAX_OFFERS}
 use Rattle.admission.specs.Reference.{of_tier, decided}
-use Rattle.admission.specs.Standing.{TierStanding, Standing, station_of, IsShare, IsSound}
+use Rattle.admission.specs.Standing.{TierStanding, PoolStanding, Standing, station_of, IsShare, IsSound}
 use Rattle.admission.specs.TierCalls.{IsComplete, Moves, AllMove, AreComplete, AllShare}
 use Rattle.admission.specs.After.{StandsAsBefore}
 use Rattle.admission.proofs.SoundLemmas.{moves_none, moves_then}
@@ -75,7 +75,14 @@ few_at first ts tick i cur share moves within at =
 
 -- with the tiers at a later tick
 abbrev pub with_tiers : Standing → List TierStanding → ℕ → Standing
-with_tiers c tiers tick = record { tiers = tiers; pools = c.pools; offers = c.offers; tick = c.tick; clock = tick }
+with_tiers c tiers tick = record {
+  tiers = tiers;
+  pools = c.pools;
+  figures = c.figures;
+  offers = c.offers;
+  tick = c.tick;
+  clock = tick;
+}
 
 many : (c : Standing) (tiers : List TierStanding) (tick : ℕ) → AllMove c.tiers tick tiers → length tiers ≡ length c.tiers
 many c tiers tick moves =
@@ -89,6 +96,8 @@ passed_sound c tiers tick sound later most moves = record {
   offers = sound.offers;
   default = sound.default;
   pools = sound.pools;
+  kept = sound.kept;
+  few = sound.few;
   clock = (omega (arith, sound.clock.0), most);
   tiers = λ i next at.
       let before = moves.each i next at in
@@ -104,7 +113,7 @@ passed_sound c tiers tick sound later most moves = record {
 station_passed : (c : Standing) (tiers : List TierStanding) (tick : ℕ) → AllMove c.tiers tick tiers
     → station_of (with_tiers c tiers tick) ≡ station_of c
 unfolding station_of
-station_passed c tiers tick moves = ap (λ (ps : List PolicyNumbers). record { policies = ps; pools = map (λ (s : List ℕ). length s) c.pools }) moves.rules
+station_passed c tiers tick moves = ap (λ (ps : List PolicyNumbers). record { policies = ps; pools = map (λ (p : PoolStanding). length p.free) c.pools }) moves.rules
 
 pub passed_stands : (c : Standing) (tiers : List TierStanding) (tick : ℕ) → AllMove c.tiers tick tiers
     → StandsAsBefore c (with_tiers c tiers tick)
@@ -115,6 +124,7 @@ passed_stands c tiers tick moves =
         offered = fits.offered;
         tick = fits.tick;
         pools = rw kept fits.pools;
+        figures = rw kept fits.figures;
         tiers = λ i next at.
             let before = moves.each i next at in
             rw kept (before.2.fits (of_tier i (decided (station_of c) offers)) (fits.tiers i before.0 before.1));

@@ -1,11 +1,11 @@
 -- The pools beside one another.
-use Rattle.std.proofs.Common.{◌≡◌, ℕ, ◌≤◌, List, [], ◌∷◌, ◌++◌, Bool, true, false, nat_le, if◌then◌else◌, refl, ◌∙◌, ap, arith, append-nil}
+use Rattle.std.proofs.Common.{◌≡◌, ℕ, List, [], ◌∷◌, ◌++◌, Bool, true, false, nat_le, if◌then◌else◌, refl, ◌∙◌, ap, arith, append-nil}
 use Rattle.std.specs.Prelude.{All}
 use Rattle.std.proofs.lemmas.List.Elements.{All-push}
 use Rattle.token_bucket.specs.Reference.{TOKEN}
 use Rattle.admission.specs.declared.control.Decision.TheVariants.{Admitted, Rejected}
-use Rattle.admission.specs.Reference.{Station, rules_of, servers_of, Offer, Decided, Served, of_tier, served, of_pool, free_at, finish_after, finish_in, sample, credit, decide, decided_next, decided_from, decided}
-use Rattle.admission.specs.Pools.{AreOfPool, OnePoolServesAll, OnePoolServers, OtherPoolsLeave, SampleHoldsService}
+use Rattle.admission.specs.Reference.{Station, rules_of, servers_of, Offer, Decided, Served, of_tier, served, of_pool, free_at, finish_after, finish_in, credit, decide, decided_next, decided_from, decided}
+use Rattle.admission.specs.Pools.{AreOfPool, OnePoolServesAll, OnePoolServers, OtherPoolsLeave, IsServedWhole, AreServedWhole}
 use Rattle.admission.proofs.RequestLemmas.{decided_from-push, served-push, of_pool-same, of_pool-apart}
 
 abbrev pub Chosen : Offer → ℕ → Bool → Decided
@@ -70,35 +70,32 @@ other_pools_leave station offers offer pool apart =
     ∙ of_pool-apart pool past offer (decide station past offer) apart in
     (same, ap (free_at (servers_of station pool)) same)
 
--- ---- samples
+-- ---- services
 
-abbrev Holds : Served → Type 0
-Holds request = request.offer.service ≤ sample request
+whole_finish : (station : Station) (requests : List Served) (offer : Offer)
+    → IsServedWhole (record { offer = offer; finish = finish_in station requests offer })
+whole_finish station requests offer = (omega arith, omega arith)
 
-holds_finish : (station : Station) (requests : List Served) (offer : Offer)
-    → Holds (record { offer = offer; finish = finish_in station requests offer })
-holds_finish station requests offer = omega arith
-
-holds_chosen : (station : Station) (past : List Decided) (offer : Offer) (b : Bool) → All Holds (served past)
-    → All Holds (served (past ++ Chosen offer (finish_in station (served past) offer) b ∷ []))
-holds_chosen station past offer true all =
+whole_chosen : (station : Station) (past : List Decided) (offer : Offer) (b : Bool) → All IsServedWhole (served past)
+    → All IsServedWhole (served (past ++ Chosen offer (finish_in station (served past) offer) b ∷ []))
+whole_chosen station past offer true all =
     rw (served-push past (Chosen offer (finish_in station (served past) offer) true))
-    (All-push Holds (served past) (record { offer = offer; finish = finish_in station (served past) offer }) all
-    (holds_finish station (served past) offer))
-holds_chosen station past offer false all =
+    (All-push IsServedWhole (served past) (record { offer = offer; finish = finish_in station (served past) offer }) all
+    (whole_finish station (served past) offer))
+whole_chosen station past offer false all =
     rw (served-push past (Chosen offer (finish_in station (served past) offer) false), append-nil (served past)) all
 
-holds_from : (station : Station) (past : List Decided) (offers : List Offer) → All Holds (served past)
-    → All Holds (served (decided_from station past offers))
+whole_from : (station : Station) (past : List Decided) (offers : List Offer) → All IsServedWhole (served past)
+    → All IsServedWhole (served (decided_from station past offers))
 unfolding decided_from
-holds_from station past [] all = all
-holds_from station past (offer ∷ offers) all =
-    holds_from station (past ++ decided_next station past offer ∷ []) offers
-    (holds_chosen station past offer (nat_le TOKEN (credit (rules_of station offer.tier) (of_tier offer.tier past) offer.tick)) all)
+whole_from station past [] all = all
+whole_from station past (offer ∷ offers) all =
+    whole_from station (past ++ decided_next station past offer ∷ []) offers
+    (whole_chosen station past offer (nat_le TOKEN (credit (rules_of station offer.tier) (of_tier offer.tier past) offer.tick)) all)
 
-holds_none : All Holds (served [])
+whole_none : All IsServedWhole (served [])
 unfolding served
-holds_none k d within = absurd (omega arith)
+whole_none k d within = absurd (omega arith)
 
-pub sample_holds_service : SampleHoldsService
-sample_holds_service station offers = holds_from station [] offers holds_none
+pub are_served_whole : AreServedWhole
+are_served_whole station offers = whole_from station [] offers whole_none

@@ -14,6 +14,11 @@ unfoldable IsAscending : ℕ → List ℕ → Type 0
 IsAscending lo [] = Unit {0}
 IsAscending lo (x ∷ xs) = (lo ≤ x) × IsAscending x xs
 
+ascending-lower : (lo x : ℕ) (xs : List ℕ) → lo ≤ x → IsAscending x xs → IsAscending lo xs
+unfolding IsAscending
+ascending-lower lo x [] le up = tt
+ascending-lower lo x (y ∷ xs) le up = (omega (arith, up.0), up.1)
+
 ascending-insert : (lo x : ℕ) (xs : List ℕ) → IsAscending lo xs → lo ≤ x → IsAscending lo (insert_sorted x xs)
 unfolding IsAscending
 ascending-insert lo x [] up le = rw (insert-none x) (le, tt)
@@ -106,6 +111,41 @@ free_ticks-push n requests request =
     rw (long, more, sorted_push (replicate n 0 ++ finishes requests) request.finish)
     (drop-insert 0 (length requests) request.finish (sorted (replicate n 0 ++ finishes requests))
     (ascending-sorted (replicate n 0 ++ finishes requests)))
+
+-- the first server that is free is so no sooner than before
+first-later : (lo x : ℕ) (xs : List ℕ) → IsAscending lo xs → first_free xs ≤ x → 1 ≤ length xs
+    → first_free xs ≤ first_free (drop 1 (insert_sorted x xs))
+unfolding IsAscending
+first-later lo x [] up le some = absurd (omega arith)
+first-later lo x (y ∷ []) up le some =
+    elim (cases_lt y x) [
+      | inl below ↦ rw (insert-past x y [] below, insert-none x) (omega arith)
+      | inr above ↦ rw (insert-front x y [] above) (omega arith)
+    ]
+first-later lo x (y ∷ z ∷ ys) up le some =
+    elim (cases_lt y x) [
+      | inl below ↦ rw (insert-past x y (z ∷ ys) below)
+          (elim (cases_lt z x) [
+            | inl under ↦ rw (insert-past x z ys under) (omega (arith, up.1.0))
+            | inr over ↦ rw (insert-front x z ys over) (omega arith)
+          ])
+      | inr above ↦ rw (insert-front x y (z ∷ ys) above) (omega arith)
+    ]
+
+ascending-drop : (lo m : ℕ) (xs : List ℕ) → IsAscending lo xs → IsAscending lo (drop m xs)
+unfolding IsAscending
+ascending-drop lo zero xs up = up
+ascending-drop lo (suc m) [] up = tt
+ascending-drop lo (suc m) (x ∷ xs) up = ascending-lower lo x (drop m xs) up.0 (ascending-drop x m xs up.1)
+
+pub free_ticks-later : (n : ℕ) (free : List ℕ) (requests : List Served) (x : ℕ) → free ≡ free_ticks n requests → first_free free ≤ x
+    → 1 ≤ length free → first_free free ≤ first_free (drop 1 (insert_sorted x free))
+unfolding free_ticks
+free_ticks-later n free requests x is le some =
+    let up : IsAscending 0 free =
+    rw is (ascending-drop 0 (length requests) (sorted (replicate n 0 ++ finishes requests))
+    (ascending-sorted (replicate n 0 ++ finishes requests))) in
+    first-later 0 x free up le some
 
 pub length-free_ticks : (n : ℕ) (requests : List Served) → length (free_ticks n requests) ≡ n
 unfolding free_ticks

@@ -1,6 +1,6 @@
 -- What a controller keeps of the offers so far.
 use Rattle.std.specs.Prelude.{◌≡◌, ℕ, ◌+◌, ◌*◌, ◌/◌, ◌≤◌, List, [], ◌∷◌, ◌++◌, length, count_by, Some, slice_get}
-use Rattle.std.specs.Prelude.{map, take}
+use Rattle.std.specs.Prelude.{map, max, take}
 use Rattle.std.specs.List.{range_with_len}
 use Rattle.token_bucket.specs.Reference.{TOKEN, accrual}
 use Rattle.token_bucket.specs.Calls.{Past}
@@ -8,8 +8,10 @@ use Rattle.admission.specs.declared.policy.PolicyNumbers.{PolicyNumbers}
 use Rattle.admission.specs.Reference.{Offer, Decided, Served, of_tier, is_admitted, is_rejected, served, completion}
 use Rattle.admission.specs.Reference.{sample, samples, by_completion, control_at, rate_after, rate_at, credit, decided}
 use Rattle.admission.specs.Reference.{tick_from, Station, rules_of, servers_of, of_pool, free_at, controls_until}
+use Rattle.admission.specs.Reference.{start, figures_of}
 use Rattle.admission.specs.Servers.{free_ticks}
-use Rattle.admission.specs.Standing.{window_of, Due, TierStanding, Standing, station_of}
+use Rattle.admission.specs.Standing.{window_of, Due, TierStanding, PoolStanding, Standing, station_of, first_free}
+use Rattle.admission.specs.declared.control.PoolFigures.{PoolFigures}
 use Rattle.admission.specs.declared.control.Outlook.{Outlook}
 use Rattle.admission.specs.declared.control.Control.{Control}
 use Rattle.token_bucket.specs.After as calls
@@ -64,16 +66,34 @@ pub record TierFits (past : List Decided) (t : TierStanding) : Type 0 where
   pub admitted : t.flight.admitted ≡ length (served past)
   pub rejected : t.rejected ≡ count_by (λ r. is_rejected r.decision) past
 
--- when the servers of a pool are free after these requests of the pool
-abbrev pub PoolFits : List Served → List ℕ → Type 0
-PoolFits past servers = servers ≡ free_ticks (length servers) past
+-- numbers that don't fall, from lo up to hi
+unfoldable pub RisesTo : ℕ → ℕ → List ℕ → Type 0
+RisesTo lo hi [] = lo ≤ hi
+RisesTo lo hi (x ∷ xs) = (lo ≤ x) × RisesTo x hi xs
 
--- a controller that stands so after these offers: each tier by its own requests, each pool by its own of all tiers
+-- the servers of a pool are free as these requests of the pool left them
+abbrev pub ServersFit : List Served → PoolStanding → Type 0
+ServersFit past p = p.free ≡ free_ticks (length p.free) past
+
+-- the figures of a pool are those of these requests of the pool, up to this tick: of their starts the first are past,
+-- the others are kept, and rise
+pub record FiguresFit (past : List Served) (tick : ℕ) (p : PoolStanding) (f : PoolFigures) : Type 0 where
+  pub are : f ≡ figures_of past
+  pub begun : List ℕ
+  pub starts : map start past ≡ begun ++ p.starts
+  pub behind : AllUpTo tick begun
+  pub rising : RisesTo 0 (max tick (first_free p.free)) p.starts
+
+-- a controller that stands so after these offers: each tier by its own requests, each pool by its own of all tiers, and
+-- so its figures where it has some
 pub record ControllerAfter (offers : List Offer) (c : Standing) : Type 0 where
   pub offered : c.offers ≡ length offers
   pub tick : c.tick ≡ tick_from 0 offers
-  pub pools : (p : ℕ) (servers : List ℕ) → slice_get c.pools p ≡ Some servers
-      → PoolFits (of_pool p (served (decided (station_of c) offers))) servers
+  pub pools : (i : ℕ) (p : PoolStanding) → slice_get c.pools i ≡ Some p
+      → ServersFit (of_pool i (served (decided (station_of c) offers))) p
+  pub figures : (i : ℕ) (p : PoolStanding) (f : PoolFigures) → slice_get c.pools i ≡ Some p
+      → slice_get c.figures i ≡ Some f
+      → FiguresFit (of_pool i (served (decided (station_of c) offers))) c.tick p f
   pub tiers : (i : ℕ) (t : TierStanding) → slice_get c.tiers i ≡ Some t
       → TierFits (of_tier i (decided (station_of c) offers)) t
 

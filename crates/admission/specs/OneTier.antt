@@ -1,5 +1,5 @@
--- Which offered requests are admitted where there is one policy and one set of servers: the decisions as they were before
--- tiers and pools.
+-- Which offered requests are admitted where there is one policy and one set of servers: the decisions as they were
+-- before tiers and pools.
 use Rattle.std.specs.Prelude.{◌≡◌, ℕ, List, [], ◌∷◌, ◌++◌, nat_le, if◌then◌else◌}
 use Rattle.token_bucket.specs.Reference.{TOKEN}
 use Rattle.admission.specs.declared.policy.PolicyNumbers.{PolicyNumbers}
@@ -32,8 +32,8 @@ unfoldable pub AreOfTier : ℕ → List Offer → Type 0
 AreOfTier tier [] = Unit {0}
 AreOfTier tier (offer ∷ offers) = (offer.tier ≡ tier) × AreOfTier tier offers
 
--- offers of tier 0 and pool 0 alone are decided under any policies and pools as the first of both alone decide them, and
--- they are the requests of tier 0, whose samples, controls and rates are therefore those of that policy alone
+-- offers of tier 0 and pool 0 alone are decided under any policies and pools as the first of both alone decide them,
+-- and they are the requests of tier 0, whose samples, controls and rates are therefore those of that policy alone
 abbrev pub OneTierAsBefore : Type 0
 OneTierAsBefore = (station : Station) (offers : List Offer) → AreOfTier 0 offers → AreOfPool 0 offers
     → (decided station offers ≡ decided_alone (servers_of station 0) (rules_of station 0) offers)

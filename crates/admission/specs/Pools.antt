@@ -1,8 +1,8 @@
--- The pools beside one another.
-use Rattle.std.specs.Prelude.{◌≡◌, ℕ, ◌≤◌, List, [], ◌∷◌, ◌++◌, All, nat_le, if◌then◌else◌}
+-- What follows for the pools, one by one and beside one another.
+use Rattle.std.specs.Prelude.{◌≡◌, ℕ, ◌+◌, ◌≤◌, List, [], ◌∷◌, ◌++◌, All, nat_le, if◌then◌else◌}
 use Rattle.token_bucket.specs.Reference.{TOKEN}
 use Rattle.admission.specs.declared.control.Decision.TheVariants.{Admitted, Rejected}
-use Rattle.admission.specs.Reference.{Station, rules_of, servers_of, Offer, of_tier, served, of_pool, free_at}
+use Rattle.admission.specs.Reference.{Station, rules_of, servers_of, Offer, Served, of_tier, served, of_pool, free_at}
 use Rattle.admission.specs.Reference.{finish_after, sample, credit, decide, decided}
 
 -- all of these offers are of this pool
@@ -32,7 +32,11 @@ OtherPoolsLeave = (station : Station) (offers : List Offer) (offer : Offer) (poo
     × (free_at (servers_of station pool) (of_pool pool (served (decided station (offers ++ offer ∷ []))))
     ≡ free_at (servers_of station pool) (of_pool pool (served (decided station offers))))
 
--- a response never takes less than the service, however many pools and servers there are
-abbrev pub SampleHoldsService : Type 0
-SampleHoldsService = (station : Station) (offers : List Offer)
-    → All (λ request. request.offer.service ≤ sample request) (served (decided station offers))
+-- however many pools and servers there are, a request is served for its whole service after it came, and so its
+-- response never takes less
+abbrev pub IsServedWhole : Served → Type 0
+IsServedWhole request = (request.offer.tick + request.offer.service ≤ request.finish)
+    × (request.offer.service ≤ sample request)
+
+abbrev pub AreServedWhole : Type 0
+AreServedWhole = (station : Station) (offers : List Offer) → All IsServedWhole (served (decided station offers))

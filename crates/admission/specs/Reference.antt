@@ -1,13 +1,14 @@
 -- What a reader has to believe: the definitions of this crate that the headline stands on, in reading order.
 use Rattle.std.specs.Prelude.{ℕ, List, slice_index_or, ◌+◌, ◌-◌, max, Bool, true, false, [], ◌∷◌, ◌++◌, map, filter}
 use Rattle.std.specs.Prelude.{count_by, nat_eq, nat_le, ◌*◌, ◌/◌, length, if◌then◌else◌, Option, slice_get}
-use Rattle.std.specs.Prelude.{zero, suc, min, take, reverse, unwrap_or, nat_lt}
+use Rattle.std.specs.Prelude.{zero, suc, min, take, reverse, unwrap_or, nat_lt, sum_by}
 use Rattle.std.specs.List.{range_with_len}
 use Rattle.admission.specs.declared.policy.PolicyNumbers.{PolicyNumbers}
 use Rattle.admission.specs.declared.control.Decision.{Decision}
 use Rattle.admission.specs.declared.control.Decision.TheVariants.{Admitted, Rejected}
 use Rattle.circular_buffer.specs.Buffer.{keep_last}
 use Rattle.admission.specs.declared.control.Control.{Control}
+use Rattle.admission.specs.declared.control.PoolFigures.{PoolFigures}
 use Rattle.token_bucket.specs.Reference.{TOKEN, accrual}
 
 -- The numbers of a policy, and their ranges.
@@ -243,3 +244,38 @@ decided_from station past (offer ∷ offers) =
 
 abbrev pub decided : Station → List Offer → List Decided
 decided station offers = decided_from station [] offers
+
+-- What each pool has done.
+
+-- when a server begins to work on a request
+abbrev pub start : Served → ℕ
+start request = request.finish - request.offer.service
+
+-- how many of these requests wait at a tick: no server has begun to work on them
+abbrev pub waiting_at : List Served → ℕ → ℕ
+waiting_at requests tick = count_by (λ r. nat_lt tick (start r)) requests
+
+-- the greatest number that wait when one of these comes after those, of all up to it and with it
+unfoldable pub longest_after : List Served → List Served → ℕ
+longest_after before [] = 0
+longest_after before (request ∷ requests) =
+    max (waiting_at (before ++ request ∷ []) request.offer.tick) (longest_after (before ++ request ∷ []) requests)
+
+abbrev pub figures_of : List Served → PoolFigures
+figures_of requests = record {
+  admitted = length requests;
+  busy = sum_by (λ r. r.offer.service) requests;
+  longest_queue = longest_after [] requests;
+}
+
+-- those of a pool of this number, by its requests of all tiers
+abbrev pub figures_in : Station → List Offer → ℕ → PoolFigures
+figures_in station offers pool = figures_of (of_pool pool (served (decided station offers)))
+
+-- of so many pools, how many have figures: all where there are several, else none
+abbrev pub with_figures : ℕ → ℕ
+with_figures pools = if nat_le pools 1 then 0 else pools
+
+-- the figures of the pools in turn, the default pool first
+unfoldable pub pools_of : Station → List Offer → List PoolFigures
+pools_of station offers = map (figures_in station offers) (range_with_len 0 (with_figures (length station.pools)))

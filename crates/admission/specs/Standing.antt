@@ -5,7 +5,8 @@ use Rattle.token_bucket.specs.Standing.{MAX_TICK, MAX_RATE}
 use Rattle.admission.specs.declared.policy.PolicyNumbers.{PolicyNumbers}
 use Rattle.admission.specs.Limits.{MAX_OFFERS, MAX_SERVICE, MAX_SERVERS, MAX_POOLS}
 use Rattle.admission.specs.declared.control.Control.{Control}
-use Rattle.admission.specs.Reference.{Station}
+use Rattle.admission.specs.declared.control.PoolFigures.{PoolFigures}
+use Rattle.admission.specs.Reference.{Station, with_figures}
 use Rattle.circular_buffer.specs.Buffer.{keep_last}
 use Rattle.token_bucket.specs.Standing as bucket
 
@@ -74,12 +75,19 @@ pub record TierStanding : Type 0 where
   pub window : Window
   pub controls : List Control
 
--- the tiers; the pools, and of each when its servers are free, the first to be free first; how many requests were
--- offered; the tick of the last one, 0 before the first; and the tick up to which time has passed, which is later where
--- no memory was left for an offer
+-- a pool: when each of its servers is free, the first to be free first; and, where it has figures, when they begin to
+-- work on the requests that waited at the tick of its last admitted one, in their order
+pub record PoolStanding : Type 0 where
+  pub free : List ℕ
+  pub starts : List ℕ
+
+-- the tiers; the pools, and their figures, where there are several; how many requests were offered; the tick of the
+-- last one, 0 before the first; and the tick up to which time has passed, which is later where no memory was left for
+-- an offer
 pub record Standing : Type 0 where
   pub tiers : List TierStanding
-  pub pools : List (List ℕ)
+  pub pools : List PoolStanding
+  pub figures : List PoolFigures
   pub offers : ℕ
   pub tick : ℕ
   pub clock : ℕ
@@ -92,7 +100,7 @@ last_tick c = c.tick
 unfoldable pub station_of : Standing → Station
 station_of c = record {
   policies = map (λ t. t.rules) c.tiers;
-  pools = map (λ servers. length servers) c.pools;
+  pools = map (λ p. length p.free) c.pools;
 }
 
 -- a default pool and at most 16 others, each of 1 to 1,024 servers
@@ -134,17 +142,27 @@ pub record IsShare (offers tick now : ℕ) (t : TierStanding) : Type 0 where
   pub clock : t.clock ≤ now
   pub complete : AllFrom (tick + 1) (completions t.flight.responses)
 
--- a pool has a server, and the first is free by then
-pub record IsPool (offers : ℕ) (servers : List ℕ) : Type 0 where
-  pub some : 1 ≤ length servers
-  pub free : first_free servers ≤ MAX_TICK + MAX_SERVICE * offers
+-- a pool has a server, and no more work than these offers can make: its first server is free by then
+pub record IsPool (offers : ℕ) (p : PoolStanding) : Type 0 where
+  pub some : 1 ≤ length p.free
+  pub free : first_free p.free ≤ MAX_TICK + MAX_SERVICE * offers
+
+-- figures tell of no more than these offers, and of no more work than they can make
+pub record IsFew (offers : ℕ) (f : PoolFigures) : Type 0 where
+  pub admitted : f.admitted ≤ offers
+  pub busy : f.busy ≤ MAX_SERVICE * offers
+
+pub record AreFew (offers : ℕ) (figures : List PoolFigures) : Type 0 where
+  pub each : (i : ℕ) (f : PoolFigures) → slice_get figures i ≡ Some f → IsFew offers f
 
 -- what each controller keeps, whatever was offered
 pub record IsSound (c : Standing) : Type 0 where
   pub four : length c.tiers ≡ 4
   pub offers : c.offers ≤ MAX_OFFERS
   pub default : 1 ≤ length c.pools
-  pub pools : (p : ℕ) (servers : List ℕ) → slice_get c.pools p ≡ Some servers → IsPool c.offers servers
+  pub pools : (i : ℕ) (p : PoolStanding) → slice_get c.pools i ≡ Some p → IsPool c.offers p
+  pub kept : length c.figures ≡ with_figures (length c.pools)
+  pub few : AreFew c.offers c.figures
   pub clock : (c.tick ≤ c.clock) × (c.clock ≤ MAX_TICK)
   pub tiers : (i : ℕ) (t : TierStanding) → slice_get c.tiers i ≡ Some t → IsShare c.offers c.tick c.clock t
 

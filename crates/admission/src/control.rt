@@ -1,4 +1,4 @@
-//! What a controller tells of a request: admitted or rejected, and why; and of a control of a rate.
+//! What a controller tells of a request: admitted or rejected, and why; of a control of a rate; and of a pool.
 
 /// A change of the rate. `percentile` and `smoothed` are in ticks, `rate` in thousandths of a token a second.
 #[derive(Clone, Copy, Debug, PartialEq, Eq, Hash)]
@@ -31,4 +31,15 @@ pub struct Outlook {
     pub rate: u64,
     /// The tick from which on a server of the pool is free of the pool's admitted requests, of all tiers.
     pub free: u64,
+}
+
+/// What a pool has done.
+#[derive(Clone, Copy, Debug, PartialEq, Eq, Hash)]
+pub struct PoolFigures {
+    /// How many requests were admitted that its servers work on.
+    pub admitted: u64,
+    /// How many ticks they work on them in all.
+    pub busy: u64,
+    /// How many of them waited at most when one of them came, that one with them where it has to wait.
+    pub longest_queue: u64,
 }

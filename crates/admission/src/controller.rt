@@ -1,16 +1,18 @@
 //! The controller: four tiers that share the pools of servers, offered requests in the order of their ticks.
 
 ghost use Rattle.std.specs.Prelude.{◌≡◌, ◌+◌, ◌*◌, ◌<◌, ◌≤◌, ◌++◌, [], ◌∷◌, ℕ, List, length, map, IfOk, OnOk, OnErr};
-ghost use Rattle.std.specs.Prelude.{count_by, replicate};
-ghost use Rattle.admission.specs.Reference.{Offer, of_tier, served, is_rejected, decide, decided};
+ghost use Rattle.std.specs.Prelude.{count_by};
+ghost use Rattle.admission.specs.Reference.{Offer, of_tier, served, is_rejected, decide, decided, pools_of};
 ghost use Rattle.admission.specs.After.{outlook, controls_in, all_controls, ControllerAfter, StandsAsBefore};
 ghost use Rattle.admission.specs.Standing.{last_tick, station_of, ArePools, HasPool, IsOffer, TakesOfferAt};
-ghost use Rattle.admission.specs.Running.{finish_or};
+ghost use Rattle.admission.specs.Running.{finish_or, new_pool};
 ghost use Rattle.admission.specs.TierCalls.{AreNew, AllShare, AllMove, AreComplete, AllShow};
 
-use crate::servers::Servers;
+use crate::pool::{Pool, no_figures};
 use crate::tier::Tier;
-use crate::{Control, Decision, MAX_DELAY, MAX_OFFERS, MAX_SERVICE, MAX_TICK, Outlook, Policy};
+use crate::{
+    Control, Decision, MAX_DELAY, MAX_OFFERS, MAX_SERVICE, MAX_TICK, Outlook, Policy, PoolFigures,
+};
 use std::alloc::{AllocError, Global};
 use std::marker::Model;
 
@@ -18,8 +20,10 @@ use std::marker::Model;
 #[derive(Drop)]
 pub struct Controller {
     tiers: [Tier; 4],
-    /// The servers of each pool, free of the pool's admitted requests of all tiers; the default pool first.
-    pools: Vec<Servers>,
+    /// The pools, each with its own admitted requests of all tiers; the default pool first.
+    pools: Vec<Pool>,
+    /// Their figures, where there are several.
+    figures: Vec<PoolFigures>,
     /// How many requests were offered, of all tiers.
     offers: u64,
     /// The tick of the last one.
@@ -36,6 +40,7 @@ impl Model for Controller {
     ghost view = { λ c. record {
       tiers = c.tiers;
       pools = c.pools.items;
+      figures = c.figures.items;
       offers = c.offers;
       tick = c.tick;
       clock = c.clock;
@@ -44,6 +49,7 @@ impl Model for Controller {
     ghost invariant = { λ c. IsSound (record {
       tiers = c.tiers;
       pools = c.pools.items;
+      figures = c.figures.items;
       offers = c.offers;
       tick = c.tick;
       clock = c.clock;
@@ -66,13 +72,13 @@ fn tiers_of(alloc: Global, policies: &[Policy]) -> Result<[Tier; 4], AllocError>
 }
 
 /// Pools of that many servers, all of which are free from tick 0 on.
-fn pools_of(alloc: Global, servers: &[u64]) -> Result<Vec<Servers>, AllocError>
+fn pools_of(alloc: Global, servers: &[u64]) -> Result<Vec<Pool>, AllocError>
     requires { ArePools servers.now }
-    ensures { IfOk result (λ pools. pools.items ≡ map (λ n. replicate n 0) servers.now) }
+    ensures { IfOk result (λ pools. pools.items ≡ map new_pool servers.now) }
 {
     let mut pools = Vec::with_capacity(alloc, servers.len())?;
     for count in servers {
-        pools.push(Servers::new(alloc, *count)?)?;
+        pools.push(Pool::new(alloc, *count)?)?;
     }
     Ok(pools)
 }
@@ -133,17 +139,19 @@ impl Controller {
     {
         let tiers = tiers_of(alloc, &policies)?;
         let pools = pools_of(alloc, servers)?;
+        let figures = no_figures(alloc, servers.len())?;
         Ok(Controller {
             tiers,
             pools,
+            figures,
             offers: 0,
             tick: 0,
             clock: 0,
         })
     }
 
-    /// Offers a request of a tier (0 to 3) to the default pool that comes at `tick` and takes `service` ticks, without a
-    /// delay.
+    /// Offers a request of the default pool and a tier (0 to 3) that comes at `tick` and takes `service` ticks, without
+    /// a delay.
     pub fn offer(&mut self, tier: u8, tick: u64, service: u64) -> Result<Decision, AllocError>
         requires offer { IsOffer tier tick service }
         requires room { TakesOfferAt self.old tick }
@@ -163,7 +171,8 @@ impl Controller {
         ensures clock { self.new.clock ≡ tick }
         ensures err { OnErr result (StandsAsBefore self.old self.new) }
     {
-        let _pools = &self.pools;
+        // there is a default pool
+        let _ = &self.pools;
         self.offer_to(0, tier, tick, service, 0)
     }
 
@@ -204,10 +213,16 @@ impl Controller {
         ensures err { OnErr result (StandsAsBefore self.old self.new) }
     {
         self.pass(tick)?;
-        let own = usize::from(pool);
-        let free = self.pools[own].first();
-        let decision = self.tiers[usize::from(tier)].offer(free, tick, service, delay)?;
-        self.pools[own].serve(decision);
+        let own = &mut self.tiers[usize::from(tier)];
+        let place = usize::from(pool);
+        let decision = self.pools[place].offer(
+            own,
+            &mut self.figures,
+            place,
+            tick,
+            service,
+            delay,
+        )?;
         self.offers += 1;
         self.tick = tick;
         Ok(decision)
@@ -225,7 +240,8 @@ impl Controller {
         pass(&mut self.tiers, tick)
     }
 
-    /// What a request of a pool and a tier (0 to 3) finds that comes at `tick`. The next offer doesn't come before that.
+    /// What a request of a pool and a tier (0 to 3) finds that comes at `tick`. The next offer doesn't come before
+    /// that.
     pub fn outlook(&mut self, pool: u8, tier: u8, tick: u64) -> Result<Outlook, AllocError>
         requires place { HasPool self.old pool × (tier < 4) }
         requires forward { (self.old.clock ≤ tick) × (tick ≤ MAX_TICK) }
@@ -251,8 +267,7 @@ impl Controller {
             ≡ outlook (station_of self.now) (decided (station_of self.now) offers) pool tier tick }
         ensures range { result.free ≤ MAX_TICK + MAX_SERVICE * MAX_OFFERS }
     {
-        let own = usize::from(pool);
-        let free = self.pools[own].first();
+        let free = self.pools[usize::from(pool)].first();
         self.tiers[usize::from(tier)].outlook(free, tick)
     }
 
@@ -286,12 +301,15 @@ impl Controller {
         self.tiers[usize::from(tier)].controls_until(self.tick)
     }
 
-    /// The controls of each tier, as [`Controller::controls`] shows them, without a copy.
-    pub fn into_controls(self) -> [Vec<Control>; 4]
-        ensures { (offers : List Offer) → ControllerAfter offers self
-            → map (λ v. v.items) result ≡ all_controls (station_of self) offers }
+    /// The controls of each tier, as [`Controller::controls`] shows them, and the figures of the pools, the default
+    /// pool first, where there are several; without a copy.
+    pub fn into_parts(self) -> ([Vec<Control>; 4], Vec<PoolFigures>)
+        ensures controls { (offers : List Offer) → ControllerAfter offers self
+            → map (λ v. v.items) result.0 ≡ all_controls (station_of self) offers }
+        ensures pools { (offers : List Offer) → ControllerAfter offers self
+            → result.1.items ≡ pools_of (station_of self) offers }
     {
         let tick = self.tick;
-        controls_of(self.tiers, tick)
+        (controls_of(self.tiers, tick), self.figures)
     }
 }

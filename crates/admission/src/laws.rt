@@ -4,7 +4,7 @@ ghost use Rattle.admission.specs.Laws.{AccrualSplitsAtControl, CreditFromCredit,
 ghost use Rattle.admission.specs.Laws.{FinishRuns, FirstCredit, OtherTiersLeave, RateBefore, RateFromOffersBefore};
 ghost use Rattle.admission.specs.Laws.{RatesWithin, RejectedLeavesAll};
 ghost use Rattle.admission.specs.OneTier.{OneTierAsBefore};
-ghost use Rattle.admission.specs.Pools.{OnePoolServers, OnePoolServesAll, OtherPoolsLeave, SampleHoldsService};
+ghost use Rattle.admission.specs.Pools.{AreServedWhole, OnePoolServers, OnePoolServesAll, OtherPoolsLeave};
 ghost use Rattle.admission.specs.Servers.{FirstComeFirstServed, OneServerFinishes, OneServerInOrder};
 
 /// A decision depends on the offers before it alone.
@@ -39,9 +39,9 @@ pub fn other_pools_leave()
     ensures { OtherPoolsLeave }
 {}
 
-/// A response never takes less than its service.
-pub fn sample_holds_service()
-    ensures { SampleHoldsService }
+/// A request is served for its whole service after it came, and its response never takes less.
+pub fn are_served_whole()
+    ensures { AreServedWhole }
 {}
 
 /// Every rate in force lies between the policy's least and greatest.
@@ -97,7 +97,7 @@ pub fn one_server_finishes()
     ensures { OneServerFinishes }
 {}
 
-/// Where all requests are of one pool of one server and have no delay, the responses of a tier are complete in the order
+/// Where all requests are of one pool of one server, without delay, the responses of a tier are complete in the order
 /// of its requests: a control stands at the finish of its last request, and the rate in force is by how many of the
 /// first are finished.
 pub fn one_server_in_order()

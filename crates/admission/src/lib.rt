@@ -12,11 +12,12 @@ mod controller;
 mod in_flight;
 pub mod laws;
 mod policy;
+mod pool;
 mod servers;
 mod tier;
 mod window;
 
-pub use control::{Control, Decision, Outlook};
+pub use control::{Control, Decision, Outlook, PoolFigures};
 pub use controller::Controller;
 pub use policy::{Policy, PolicyFault, PolicyNumbers};
 pub use token_bucket::{MAX_DEPTH, MAX_RATE, MAX_TICK};

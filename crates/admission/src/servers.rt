@@ -3,11 +3,10 @@
 ghost use Rattle.std.specs.Prelude.{◌≡◌, ℕ, ◌+◌, ◌<◌, ◌≤◌, List, [], ◌∷◌, drop, replicate, IfOk, OnOk};
 ghost use Rattle.std.specs.BinaryHeap.{heap_items, heap_len, heap_capacity};
 ghost use Rattle.admission.specs.Reference.{insert_sorted, sorted};
-ghost use Rattle.admission.specs.Running.{finish_or, servers_after};
 ghost use Rattle.admission.specs.Standing.{first_free, AllFrom};
 ghost use Rattle.admission.specs.Servers.{ticks_of, AreOthers, IsOrdered};
 
-use crate::{Decision, MAX_SERVERS};
+use crate::MAX_SERVERS;
 use std::alloc::{AllocError, Global};
 use std::cmp::Reverse;
 use std::collections::BinaryHeap;
@@ -96,18 +95,8 @@ impl Servers {
         self.first
     }
 
-    /// Has the first of them serve a request that is admitted.
-    pub(crate) fn serve(&mut self, decision: Decision)
-        requires { first_free self.old ≤ finish_or (first_free self.old) decision }
-        ensures { self.new ≡ servers_after self.old decision }
-    {
-        if let Decision::Admitted { finish } = decision {
-            self.take(finish);
-        }
-    }
-
     /// Has the first of them serve until this tick.
-    fn take(&mut self, finish: u64)
+    pub(crate) fn take(&mut self, finish: u64)
         requires { first_free self.old ≤ finish }
         ensures { self.new ≡ drop 1 (insert_sorted finish self.old) }
     {

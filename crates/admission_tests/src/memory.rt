@@ -35,13 +35,13 @@ fn each_growth_refused(rt: HostRuntime) {
     assert!(rt; rates.eq([833, 694]));
 }
 
-/// With three servers an offer takes no more memory than with one.
+/// With three servers an offer takes memory, and where there is another pool once more where it waits.
 #[test]
 fn each_growth_of_servers_refused(rt: HostRuntime) {
     let policy = Policy::new(2, 1, 700, 1000, 500, 2000, 10, 120, 1000, 90, 10).expect(
         &rt, "a policy",
     );
-    let Ok(mut controller) = Controller::with_pools(rt.alloc(), [policy; 4], &[3]) else {
+    let Ok(mut controller) = Controller::with_pools(rt.alloc(), [policy; 4], &[3, 1]) else {
         return;
     };
     for place in 0..6u64 {
@@ -56,7 +56,9 @@ fn each_growth_of_servers_refused(rt: HostRuntime) {
         assert_eq!(rt; decision, Decision::Admitted { finish });
     }
     assert!(rt; controller.controls(0).is_empty());
-    assert_eq!(rt; controller.admitted(0), 6);
+    let (_controls, pools) = controller.into_parts();
+    let longest = pools.iter().map(|own| own.longest_queue);
+    assert!(rt; longest.eq([3, 0]));
 }
 
 /// What a request would find is asked again where there was no memory for the responses that are complete by then.

@@ -1,5 +1,5 @@
 //! Rows worked by hand.
-use admission::{Control, Controller, Decision, Outlook, Policy, PolicyFault};
+use admission::{Control, Controller, Decision, Outlook, Policy, PolicyFault, PoolFigures};
 use std::test::Fail;
 
 fn control(instant: u64, percentile: u64, smoothed: u64, rate: u64) -> Control {
@@ -276,9 +276,11 @@ fn a_delay_lowers_the_rate(rt: HostRuntime) -> Result<(), Fail> {
         control(5200, 5200, 2645, 700),
     ];
     assert_eq!(rt; controller.controls(0), shown.as_slice());
-    let controls = controller.into_controls();
+    let (controls, pools) = controller.into_parts();
     assert_eq!(rt; controls[0].as_slice(), shown.as_slice());
     assert!(rt; controls[1].is_empty());
+    // of the default pool alone there are no figures
+    assert!(rt; pools.is_empty());
     Ok(())
 }
 
@@ -306,35 +308,77 @@ fn the_most_servers(rt: HostRuntime) -> Result<(), Fail> {
     Ok(())
 }
 
-/// A request waits for the servers of its own pool alone: pool 1, of one server, works on the first request up to tick
-/// 1,000, and then on the third up to 2,000. The others don't wait for that: pool 0 has two servers.
+/// A pool of one server and one of two: a long request in pool 1 delays no request of the default pool. In pool 1 the
+/// third request waits until tick 11, when the second one's server is free, and in the default pool the second one from
+/// tick 3 until tick 5, when the first one is finished.
 #[test]
-fn pools_apart(rt: HostRuntime) -> Result<(), Fail> {
-    let policy = Policy::new(1, 1, 700, 1000, 500, 2000, 10, 120, 1000, 90, 10).expect(
+fn a_request_waits_for_its_own_pool_alone(rt: HostRuntime) -> Result<(), Fail> {
+    let policy = Policy::new(100, 100, 700, 1000, 1000, 1000, 0, 120, 1000, 90, 10).expect(
         &rt, "a policy",
     );
-    let mut controller = Controller::with_pools(rt.alloc(), [policy; 4], &[2, 1])?;
+    let mut controller = Controller::with_pools(rt.alloc(), [policy; 4], &[1, 2])?;
     assert_eq!(rt;
         controller.offer_to(1, 0, 0, 1000, 0)?,
         Decision::Admitted { finish: 1000 }
     );
     assert_eq!(rt;
-        controller.offer_to(0, 0, 1, 4, 0)?,
+        controller.offer(0, 0, 5)?,
         Decision::Admitted { finish: 5 }
     );
     assert_eq!(rt;
-        controller.offer_to(1, 1, 2, 1000, 0)?,
-        Decision::Admitted { finish: 2000 }
+        controller.offer_to(1, 0, 1, 10, 0)?,
+        Decision::Admitted { finish: 11 }
     );
     assert_eq!(rt;
-        controller.offer_to(0, 1, 3, 4, 0)?,
-        Decision::Admitted { finish: 7 }
+        controller.offer_to(1, 1, 2, 10, 0)?,
+        Decision::Admitted { finish: 21 }
     );
     assert_eq!(rt;
-        controller.offer_to(0, 2, 4, 4, 0)?,
+        controller.offer(0, 3, 4)?,
         Decision::Admitted { finish: 9 }
     );
-    assert_eq!(rt; controller.outlook(0, 0, 5)?.free, 7);
-    assert_eq!(rt; controller.outlook(1, 0, 5)?.free, 2000);
+    assert_eq!(rt; controller.outlook(0, 0, 4)?.free, 9);
+    assert_eq!(rt; controller.outlook(1, 0, 4)?.free, 21);
+    Ok(())
+}
+
+/// Two requests of tier 0 find a token, and the third is rejected: it occupies no server of pool 1 and isn't in its
+/// figures. The second waits until tick 100, and that of tier 1, which comes at the same tick, until 200: two wait.
+/// When that of tier 2 comes, at tick 150, the second has begun, and two wait again.
+#[test]
+fn a_pool_counts_its_admitted_requests(rt: HostRuntime) -> Result<(), Fail> {
+    let policy = Policy::new(100, 100, 700, 1000, 1000, 1000, 0, 120, 1000, 90, 2).expect(
+        &rt, "a policy",
+    );
+    let mut controller = Controller::with_pools(rt.alloc(), [policy; 4], &[1, 1])?;
+    assert_eq!(rt;
+        controller.offer_to(1, 0, 0, 100, 0)?,
+        Decision::Admitted { finish: 100 }
+    );
+    assert_eq!(rt;
+        controller.offer_to(1, 0, 0, 100, 0)?,
+        Decision::Admitted { finish: 200 }
+    );
+    assert_eq!(rt; controller.offer_to(1, 0, 0, 100, 0)?, Decision::Rejected);
+    assert_eq!(rt;
+        controller.offer_to(1, 1, 0, 100, 0)?,
+        Decision::Admitted { finish: 300 }
+    );
+    assert_eq!(rt;
+        controller.offer_to(1, 2, 150, 50, 0)?,
+        Decision::Admitted { finish: 350 }
+    );
+    let default = PoolFigures {
+        admitted: 0,
+        busy: 0,
+        longest_queue: 0,
+    };
+    let named = PoolFigures {
+        admitted: 4,
+        busy: 350,
+        longest_queue: 2,
+    };
+    let (_controls, pools) = controller.into_parts();
+    assert_eq!(rt; pools.as_slice(), [default, named].as_slice());
     Ok(())
 }

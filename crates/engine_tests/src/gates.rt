@@ -379,9 +379,9 @@ fn travelling<R: Abort + AllocGlobal + Threads + Wait + Sync + Drop>(
 }
 
 /// Seventeen of 64 messages travel together where one thread works, one more than a quarter; but a page of more than
-/// 16,384 bytes is the last of its lot.
+/// 16,384 bytes is the last of its chunk.
 #[test]
-fn large_pages_end_their_lots(rt: HostRuntime) {
+fn large_pages_end_their_chunks(rt: HostRuntime) {
     let small = travelling(&rt, rt.clone().expect(&rt, "memory"), 16_384);
     assert_eq!(rt; small.as_slice(), [17, 17, 17, 13usize].as_slice());
     let large = travelling(&rt, rt.clone().expect(&rt, "memory"), 16_385);

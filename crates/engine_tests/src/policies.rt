@@ -35,8 +35,8 @@ pub fn nimble(depth: u64) -> Option<Policy> {
     Policy::new(1, 1, 700, 1000, 500, 2000, 10, 120, 1000, 90, depth).ok()
 }
 
-/// These settings with a route in front of the file: 2,000 ticks of a pool of two servers, 100 for each 1,024 bytes, and
-/// a delay of 3.
+/// These settings with a route in front of the file: 2,000 ticks of a pool of two servers, 100 for each 1,024 bytes,
+/// and a delay of 3.
 pub fn routed(alloc: Global, settings: Box<Settings>) -> Option<Box<Settings>> {
     let prefix = Prefix::read(alloc, b"/a.txt").ok()??;
     let mut routes = Vec::new(alloc);

@@ -8,13 +8,14 @@ use crate::overwritten::{Node, Overwritten};
 use crate::source::Source;
 use captures::Version;
 use devices::Output;
-use faults::{Fault, Place, write_skipped};
+use faults::{Fault, FileFault, FolderFault, Place, write_skipped};
 use reference::Settings;
 use runs::{
-    Sink, buffered_input, inspect_into, run_snapshot, settings_into, slim_into, upgrade_into,
+    Found, Sink, buffered_input, inspect_into, run_snapshot, settings_into, slim_into, upgrade_into,
 };
 use settings::{MAX_SETTINGS_BYTES, default_settings, read_settings};
 use slim::Queries;
+use std::alloc::AllocError;
 use std::io::{ErrorKind, Read};
 
 /// How many bytes of a settings file are read: one more than it may have.
@@ -115,6 +116,30 @@ pub fn slim_named(
     ran.map_err(|fault| with_looks(rt, fault, None, name))
 }
 
+/// How many of the names that are left out are told, each in a line. Of the others there is the count alone.
+const MOST_TOLD: usize = 100;
+
+/// Tells of what was left out, and how many that is. Where standard error can't be written, the snapshot stands all the
+/// same.
+fn tell_left_out(
+    rt: &HostRuntime,
+    found: &[Found],
+    whys: &[Option<FileFault>],
+) -> Result<usize, AllocError> {
+    let mut skipped = 0usize;
+    for (one, why) in found.iter().zip(whys) {
+        let Some(fault) = why else {
+            continue;
+        };
+        if skipped < MOST_TOLD {
+            let named = FolderFault::new(rt.alloc(), one.name.as_str(), *fault)?;
+            let _ = Fault::Folder(named).write_line(&mut Output::new(rt.stderr()));
+        }
+        skipped = skipped.saturating_add(1);
+    }
+    Ok(skipped)
+}
+
 /// Writes the files of a folder as a snapshot. What is in the folder is listed before the output is opened: so a new
 /// output is none of its files, and one that was among them is refused.
 pub fn snapshot_named(
@@ -129,15 +154,18 @@ pub fn snapshot_named(
     };
     let listing = list_folder(rt, &root)?;
     let output = Overwritten::open(rt, output, Place::Output, &listing.nodes)?;
-    let skipped = run_snapshot(
+    let mut whys = Vec::new(rt.alloc());
+    let ran = run_snapshot(
         rt.alloc(),
         &FileFolder::new(rt, &root, &listing),
         &listing.found,
         skip,
+        &mut whys,
         &mut Output::new(output),
-    )?;
+    );
+    let skipped = tell_left_out(rt, &listing.found, &whys)?;
+    ran?;
     if skip {
-        // Where standard error can't be written, the snapshot stands all the same.
         let _ = write_skipped(skipped, &mut Output::new(rt.stderr()));
     }
     Ok(())

@@ -3,8 +3,7 @@
 use crate::cursor::Cursor;
 use crate::open_folder::{OpenFolder, Unread};
 use crate::overwritten::Node;
-use devices::Output;
-use faults::{Fault, FileFault, FolderFault, Place};
+use faults::{Fault, FileFault, Place};
 use paths::MAX_NAME_BYTES;
 use runs::{Contents, Folder, Found, Unanswered};
 use std::alloc::{AllocError, Global};
@@ -172,9 +171,6 @@ fn in_order(alloc: Global, mut taken: Vec<(Found, Option<Node>)>) -> Result<List
     Ok(listing)
 }
 
-/// How many of the names that are left out are told, each in a line. Of the others there is the count alone.
-const MOST_TOLD: usize = 100;
-
 /// A folder of the system, as it was listed.
 #[derive(Drop)]
 pub struct FileFolder<'a> {
@@ -183,8 +179,6 @@ pub struct FileFolder<'a> {
     listing: &'a Listing,
     /// At the folder of the file that was read last: the names come in their order, so the next is near.
     cursor: Cell<Cursor>,
-    /// How many names that were left out have been told.
-    reported: Cell<usize>,
 }
 
 impl<'a> FileFolder<'a> {
@@ -195,7 +189,6 @@ impl<'a> FileFolder<'a> {
             root,
             listing,
             cursor: Cell::new(Cursor::new(rt.alloc())),
-            reported: Cell::new(0),
         }
     }
 
@@ -234,16 +227,5 @@ impl<'a> Folder for FileFolder<'a> {
             Err(Unread::Fault(fault)) => Ok(Err(fault)),
             Err(Unread::Unanswered(why)) => Err(why),
         }
-    }
-
-    fn leave_out(&self, name: &str, fault: FileFault) -> Result<(), AllocError> {
-        let reported = self.reported.get();
-        if reported < MOST_TOLD {
-            self.reported.set(reported + 1);
-            let named = FolderFault::new(self.rt.alloc(), name, fault)?;
-            // Where standard error can't be written, the snapshot is made all the same.
-            let _ = Fault::Folder(named).write_line(&mut Output::new(self.rt.stderr()));
-        }
-        Ok(())
     }
 }

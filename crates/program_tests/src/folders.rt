@@ -55,10 +55,17 @@ fn found_of(alloc: Global, rows: &[Row]) -> Result<Vec<Found>, AllocError> {
     Ok(found)
 }
 
-/// Whether so many were left out, or this one couldn't be taken.
-fn is_told(ran: &Result<usize, Fault>, want: Result<usize, (&str, FileFault)>) -> bool {
+/// Why each was left out, none where it was taken.
+type Whys = &'static [Option<FileFault>];
+
+/// Whether these were left out, or this one couldn't be taken.
+fn is_told(
+    ran: &Result<(), Fault>,
+    whys: &[Option<FileFault>],
+    want: Result<Whys, (&str, FileFault)>,
+) -> bool {
     match (ran, want) {
-        (Ok(skipped), Ok(wanted)) => *skipped == wanted,
+        (Ok(()), Ok(wanted)) => whys == wanted,
         (Err(Fault::Folder(fault)), Err((name, why))) => {
             fault.name.as_slice() == name.as_bytes() && fault.fault == why
         }
@@ -71,7 +78,7 @@ fn check(
     rt: &(impl Abort + AllocGlobal),
     rows: &[Row],
     skip: bool,
-    want: Result<usize, (&str, FileFault)>,
+    want: Result<Whys, (&str, FileFault)>,
     text: &str,
 ) -> Result<(), Fail> {
     let shelf = Shelf {
@@ -79,15 +86,17 @@ fn check(
         files: &FILES,
     };
     let found = found_of(rt.alloc(), rows)?;
+    let mut whys = Vec::new(rt.alloc());
     let mut device = Narrow::ample();
     let ran = run_snapshot(
         rt.alloc(),
         &shelf,
         &found,
         skip,
+        &mut whys,
         &mut Output::new(&mut device),
     );
-    assert!(rt; is_told(&ran, want));
+    assert!(rt; is_told(&ran, &whys, want));
     assert_eq!(rt; device.text(), text.as_bytes());
     Ok(())
 }
@@ -107,6 +116,17 @@ const MIXED: [Row; 6] = [
     ("b", None),
 ];
 
+static NONE: [Option<FileFault>; 3] = [None, None, None];
+
+static SOME: [Option<FileFault>; 6] = [
+    None,
+    Some(FileFault::Link),
+    None,
+    Some(FileFault::Time),
+    Some(FileFault::Read),
+    None,
+];
+
 const ONE: &str = "haboob-snapshot 1\nfile 784111777 3 3\na.b\nhi\n\n";
 
 const TWO: &str = "haboob-snapshot 1\nfile 784111777 3 3\na.b\nhi\n\nfile 0 3 0\na/b\n\n";
@@ -114,13 +134,18 @@ const TWO: &str = "haboob-snapshot 1\nfile 784111777 3 3\na.b\nhi\n\nfile 0 3 0\
 #[test]
 fn taken(rt: HostRuntime) -> Result<(), Fail> {
     let none: [Row; 0] = [];
-    for (rows, skip, skipped, text) in [
-        (ROWS.as_slice(), false, 0, TEXT),
-        (ROWS.as_slice(), true, 0, TEXT),
-        (none.as_slice(), false, 0, "haboob-snapshot 1\nend 0\n"),
-        (MIXED.as_slice(), true, 3, TEXT),
+    for (rows, skip, whys, text) in [
+        (ROWS.as_slice(), false, NONE.as_slice(), TEXT),
+        (ROWS.as_slice(), true, NONE.as_slice(), TEXT),
+        (
+            none.as_slice(),
+            false,
+            &NONE[..0],
+            "haboob-snapshot 1\nend 0\n",
+        ),
+        (MIXED.as_slice(), true, SOME.as_slice(), TEXT),
     ] {
-        check(&rt, rows, skip, Ok(skipped), text)?;
+        check(&rt, rows, skip, Ok(whys), text)?;
     }
     Ok(())
 }
@@ -150,11 +175,13 @@ fn too_many_open(rt: HostRuntime) -> Result<(), Fail> {
         files: &FILES,
     };
     let found = found_of(rt.alloc(), &[("a.b", None), ("full", None), ("none", None)])?;
+    let mut whys = Vec::new(rt.alloc());
     for skip in [false, true] {
         let mut device = Narrow::ample();
         let mut output = Output::new(&mut device);
-        let ran = run_snapshot(rt.alloc(), &shelf, &found, skip, &mut output);
+        let ran = run_snapshot(rt.alloc(), &shelf, &found, skip, &mut whys, &mut output);
         assert!(rt; matches!(ran, Err(Fault::Open(Place::Folder))));
+        assert_eq!(rt; whys.as_slice(), &NONE[..1]);
         assert_eq!(rt; device.text(), ONE.as_bytes());
     }
     Ok(())
@@ -206,17 +233,19 @@ fn ends_writing(rt: &(impl Abort + AllocGlobal), good: usize) -> Result<bool, Fa
         files: &FILES,
     };
     let found = found_of(rt.alloc(), &ROWS)?;
+    let mut whys = Vec::new(rt.alloc());
     let mut device = Narrow::new(8, good);
     let ran = run_snapshot(
         rt.alloc(),
         &shelf,
         &found,
         true,
+        &mut whys,
         &mut Output::new(&mut device),
     );
     assert!(rt; TEXT.as_bytes().starts_with(device.text()));
     assert_eq!(rt; ran.is_ok(), device.text().len() == TEXT.len());
-    assert!(rt; matches!(ran, Ok(0) | Err(Fault::Write(Place::Output))));
+    assert!(rt; matches!(ran, Ok(()) | Err(Fault::Write(Place::Output))));
     Ok(ran.is_ok())
 }
 
@@ -242,12 +271,14 @@ fn each_growth_refused(rt: HostRuntime) {
         alloc: rt.alloc(),
         files: &FILES,
     };
+    let mut whys = Vec::new(rt.alloc());
     let mut device = Narrow::ample();
     let ran = run_snapshot(
         rt.alloc(),
         &shelf,
         &found,
         false,
+        &mut whys,
         &mut Output::new(&mut device),
     );
     match ran {

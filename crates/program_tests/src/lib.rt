@@ -14,12 +14,10 @@ mod poor_devices;
 #[cfg(test)]
 mod reports;
 #[cfg(test)]
+mod rewrites;
+#[cfg(test)]
 mod running;
 #[cfg(test)]
 mod sinks;
-#[cfg(test)]
-mod slim_texts;
-#[cfg(test)]
-mod upgrades;
 #[cfg(test)]
 mod written_out;

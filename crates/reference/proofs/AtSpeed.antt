@@ -4,7 +4,7 @@ use Rattle.std.proofs.Math.Nat.{mul-div_cancel}
 use Rattle.std.specs.List.{list_any}
 use Rattle.std.proofs.lemmas.List.{length-map, map-append}
 use Rattle.std.proofs.lemmas.List.Sums.{sum_by-cons}
-use Rattle.admission.specs.Reference.{Offer, decide, decided}
+use Rattle.admission.specs.Reference.{Offer, decide, decided, pools_of}
 use Rattle.admission.specs.After.{outlook}
 use Rattle.http_requests.specs.declared.messages.Meaning.{Meaning}
 use Rattle.http_requests.specs.declared.messages.Meaning.TheVariants.{Request, Bad}
@@ -107,6 +107,7 @@ summary_same files t xs =
       bypassed = bypassed_same t.speed xs i;
       samples = samples_of (station_for t) (offers_same files t xs i);
       tiers = tallies_of (station_for t) (offers_same files t xs i);
+      pools = pools_of (station_for t) (offers_same files t xs i);
     }
 
 first_same : (files : List File) (t : Terms) (earlier : List Arrival) (offers : List Offer) → first_offered files (at_speed 100 t) (map (hurried t.speed) earlier) offers ≡ first_offered files t earlier offers

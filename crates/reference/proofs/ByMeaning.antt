@@ -3,7 +3,7 @@ use Rattle.std.proofs.Common.{◌≡◌, ℕ, ◌+◌, ◌==◌, Bool, true, fal
 use Rattle.std.specs.List.{list_any}
 use Rattle.std.proofs.lemmas.List.{length-map, map-append}
 use Rattle.std.proofs.lemmas.List.Sums.{sum_by-cons}
-use Rattle.admission.specs.Reference.{Offer, decide, decided}
+use Rattle.admission.specs.Reference.{Offer, decide, decided, pools_of}
 use Rattle.admission.specs.After.{outlook}
 use Rattle.http_requests.specs.declared.messages.Meaning.{Meaning}
 use Rattle.responses.specs.Reference.{statuses}
@@ -95,6 +95,7 @@ summary_normal files t xs =
       bypassed = bypassed_normal xs i;
       samples = samples_of (station_for t) (offers_normal files t xs i);
       tiers = tallies_of (station_for t) (offers_normal files t xs i);
+      pools = pools_of (station_for t) (offers_normal files t xs i);
     }
 
 first_normal : (files : List File) (t : Terms) (earlier : List Arrival) (offers : List Offer) → first_offered files t (map normal earlier) offers ≡ first_offered files t earlier offers

@@ -22,7 +22,7 @@ use Rattle.paths.specs.declared.target.Asked.TheVariants as asked_for
 use Rattle.admission.specs.declared.policy.PolicyNumbers.{PolicyNumbers}
 use Rattle.admission.specs.declared.control.Decision.{Decision}
 use Rattle.admission.specs.declared.control.Decision.TheVariants.{Admitted, Rejected}
-use Rattle.admission.specs.Reference.{Station, rules_of, Offer, Decided, Served, servers_of, of_tier, of_pool, as_served, served, finishes, samples, sample, is_rejected, by_completion, control_at, controls_until, least_balance, rate_at, finish_in as finish_of, decide, decided_next, decided_from, decided, tick_from}
+use Rattle.admission.specs.Reference.{Station, rules_of, Offer, Decided, Served, servers_of, of_tier, of_pool, as_served, served, finishes, samples, sample, is_rejected, by_completion, control_at, controls_until, least_balance, rate_at, finish_in as finish_of, decide, decided_next, decided_from, decided, tick_from, figures_of, figures_in, with_figures, pools_of}
 use Rattle.admission.specs.OneTier.{AreOfTier}
 use Rattle.admission.specs.Pools.{AreOfPool}
 use Rattle.admission.specs.Laws.{RunsTo}
@@ -143,7 +143,7 @@ shared : (files : List File) (terms : Terms) (policies : List PolicyNumbers) (st
     → (replies_of files terms start (handled files terms arrivals)
     ≡ replies_of files (with_policies policies terms) start (handled files (with_policies policies terms) arrivals))
     × (outcome_of v files terms arrivals ≡ outcome_of v files (with_policies policies terms) arrivals)
-unfolding reply_of samples_of tally_of offers_of
+unfolding reply_of samples_of tally_of offers_of pools_of
 shared files terms policies start v arrivals same lowest =
     let hs = handled_same files terms policies [] arrivals same (All-nil (λ a. a.origin.tier ≡ 0)) lowest in
     let offers : List Offer = offers_of files terms arrivals in
@@ -161,6 +161,7 @@ shared files terms policies start v arrivals same lowest =
           bypassed = bypassed_of arrivals;
           samples = samples (served (requests i));
           tiers = tallies i;
+          pools = map (λ p. figures_of (of_pool p (served (requests i)))) (range_with_len 0 (with_figures (length (station_for terms).pools)));
         };
       },
     )
@@ -412,6 +413,12 @@ all_are files terms earlier (a ∷ arrivals) d before lowest =
       λ i. record { number = length earlier; arrival = a; turned_away = away i } ∷ more i,
     )
 
+-- there was one pool
+no_pools : (terms : Terms) (offers : List Offer) → AtDefaults terms → pools_of (station_for terms) offers ≡ []
+unfolding pools_of
+no_pools terms offers d =
+    ap (λ (ps : List ℕ). map (figures_in (station_for terms) offers) (range_with_len 0 (with_figures (length (terms.tariff.costs.servers ∷ ps))))) d.pools
+
 -- messages of tier 0 are answered as they were
 as_before : (files : List File) (terms : Terms) (arrivals : List Arrival) → AtDefaults terms → AreLowest arrivals
     → (handled files terms arrivals ≡ former_handled (former_terms files terms) [] 0 arrivals)
@@ -429,7 +436,13 @@ as_before files terms arrivals d lowest =
       λ i. record {
         version = One;
         rejected = rejected_of (all.1 i);
-        summary = record { counts = counts_of files terms (all.1 i); bypassed = bypassed_of arrivals; samples = samples i; tiers = tallies i };
+        summary = record {
+          counts = counts_of files terms (all.1 i);
+          bypassed = bypassed_of arrivals;
+          samples = samples i;
+          tiers = tallies i;
+          pools = no_pools terms offers d i;
+        };
       },
     )
 

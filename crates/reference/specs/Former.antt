@@ -128,7 +128,7 @@ no_requests = record { admitted = 0; rejected = 0; controls = [] }
 abbrev pub former_terms : List File → Terms → FormerTerms
 former_terms files terms = record { files = files; costs = terms.tariff.costs; rules = rules_of (station_for terms) 0 }
 
--- which messages were turned away, and what became of all, told by tiers: all requests came in tier 0
+-- which messages were turned away, and what became of all, told by tiers: all requests came in tier 0; and no pools
 abbrev pub former_outcome : List File → Terms → List Arrival → Outcome
 former_outcome files terms arrivals =
     (let messages = former_handled (former_terms files terms) [] 0 arrivals in
@@ -141,6 +141,7 @@ former_outcome files terms arrivals =
         bypassed = bypassed_of arrivals;
         samples = former_samples requests;
         tiers = former_tally (former_terms files terms).rules requests ∷ no_requests ∷ no_requests ∷ no_requests ∷ [];
+        pools = [];
       };
     })
 

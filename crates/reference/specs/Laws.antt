@@ -126,6 +126,7 @@ StartsOnceFree = (files : List File) (terms : Terms) (earlier : List Arrival) (o
 pub record AtDefaults (terms : Terms) : Type 0 where
   pub routes : terms.tariff.routes ≡ []
   pub servers : terms.tariff.costs.servers ≡ 1
+  pub pools : terms.tariff.pools ≡ []
   pub delay : terms.tariff.costs.delay ≡ 0
   pub speed : terms.speed ≡ 100
 

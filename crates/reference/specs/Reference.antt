@@ -8,7 +8,7 @@ use Rattle.stage_graph.specs.Layouts.{Layout}
 use Rattle.cost_model.specs.Reference.{Tariff, Charge, charge}
 use Rattle.admission.specs.declared.policy.PolicyNumbers.{PolicyNumbers}
 use Rattle.admission.specs.Reference.{Station, Offer, is_rejected, decide, decided, rules_of, Decided, served, samples}
-use Rattle.admission.specs.Reference.{of_tier, controls_until, tick_from}
+use Rattle.admission.specs.Reference.{of_tier, controls_until, tick_from, pools_of}
 use Rattle.paths.specs.declared.file.File.{File}
 use Rattle.paths.specs.Reference.{file_of, asked, outcome}
 use Rattle.paths.specs.declared.resolution.Outcome.{Outcome as PathOutcome}
@@ -282,6 +282,7 @@ summary_of files terms arrivals = record {
   bypassed = bypassed_of arrivals;
   samples = samples_of (station_for terms) (offers_of files terms arrivals);
   tiers = tallies_of (station_for terms) (offers_of files terms arrivals);
+  pools = pools_of (station_for terms) (offers_of files terms arrivals);
 }
 
 -- What a replay comes to: its outcome, or a fault, and what it has written.
@@ -314,7 +315,7 @@ pub record Answers (files : List File) (terms : Terms) (input old new : Option (
   -- what was handled on each connection is, in this order, what its text asks for
   pub in_request_order : (c : ℕ) → MessagesOf (text_of c (used_once read.capture.records))
       (map (λ h. h.arrival.message) (handled_on c (handled files terms read.arrivals)))
-  -- the counts, the samples, and each tier's tally
+  -- the counts, the samples, each tier's tally, and the pools' figures
   pub figures : outcome.summary ≡ summary_of files terms read.arrivals
   -- the format of the text
   pub format : outcome.version ≡ read.capture.version

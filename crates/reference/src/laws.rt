@@ -50,8 +50,8 @@ pub fn due_begins()
     ensures { DueBegin }
 {}
 
-/// Where each key that came since is at its default, a capture of version 1 has the answer that it had when there was one
-/// policy and one server: that policy is the first, and each request stands in the tally of tier 0.
+/// Where each key that came since is at its default, a capture of version 1 has the answer that it had when there was
+/// one policy and one server: that policy is the first, and each request stands in the tally of tier 0.
 pub fn same_in_version_one()
     ensures { SameInVersionOne }
 {}

@@ -160,7 +160,8 @@ impl Settings {
         policies: [Policy; 4],
         retry_after: u64,
     ) -> Result<Settings, SettingsFault>
-        ensures ok { IfOk result (λ s. (s ≡ choice_of front back batch cache costs policies retry_after)
+        ensures ok { IfOk result
+            (λ s. (s ≡ choice_of front back batch cache costs policies retry_after)
             × (settings_fault s ≡ None)) }
         ensures fault { IfErr result
             (λ f. settings_fault (choice_of front back batch cache costs policies retry_after) ≡ Some f) }

@@ -1,6 +1,6 @@
 //! What a replay answers: its figures, and which requests were rejected.
 
-use admission::Control;
+use admission::{Control, PoolFigures};
 use arrivals::Series;
 use captures::Version;
 
@@ -32,6 +32,8 @@ pub struct Summary {
     pub samples: Series<u64>,
     /// What became of the requests of each tier.
     pub tiers: [Tally; 4],
+    /// What the pools have done, the default pool first; none where there is no other.
+    pub pools: Series<PoolFigures>,
 }
 
 /// What a replay has come to.

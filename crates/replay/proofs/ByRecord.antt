@@ -52,7 +52,7 @@ use Rattle.replay.proofs.Judging.{answered_is}
 use Rattle.reference.proofs.OneAnswer.{same_outcome}
 use Rattle.paths.specs.declared.file.File.{File}
 
--- ---- the room of a connection
+-- ---- the bytes that a connection may take
 
 bytes_below : (c : ℕ) (r : Record) → length (bytes_to c r) ≤ size_of r
 bytes_below c (Piece tick conn bytes) = elim (eqb_tells conn c) [
@@ -319,7 +319,7 @@ most_of {v} {w} {most} {answered} same is within = let limit = limit_of same is 
 within_most : (files : List File) (terms : Terms) (v : Version) (arrivals : List Arrival) (decider : Decider) → DeciderAfter files terms arrivals decider → decider.totals.answered ≤ (format_of v).max_messages → length arrivals ≤ (format_of v).max_messages
 within_most files terms v arrivals decider stands most = let is = answered_is files terms arrivals decider stands.counted in omega (arith, is, most)
 
--- the whole capture was told of
+-- the whole capture was reported
 pub all_written : (t : Texts) (files : List File) (terms : Terms) (v : Version) (start count : ℕ) (records : List Record) (arrivals : List Arrival) (connections : List Connection) (decider : Decider)
     (input old mid new : Option (List ℕ)) (outcome : Outcome) → AreTexts t → IsCapture v start records → WhereKnown input (λ bytes. IsCaptureText v bytes start records)
     → Serves files terms records arrivals connections decider
@@ -355,7 +355,7 @@ ends_short t files terms v start count records arrivals connections decider inpu
 
 -- ---- faults
 
--- what stands where the capture has a fault: what is due there, or else a prefix of what is due
+-- what is written where the capture has a fault: what is due there, or else a prefix of that
 pub leaves_reported : (t : Texts) (input ahead old new : Option (List ℕ)) (f : CaptureFault) → StopsWriting t input ahead old new f → IsCutOff t input old new
     → Leaves t input ahead old new (pass_fault f)
 leaves_reported t input ahead old new f stops cut = leaves_by input ahead _ _ _ _ f stops cut
@@ -466,7 +466,7 @@ pub more_written : (files : List File) (terms : Terms) (start : ℕ) (arrivals m
     → Written files terms start arrivals more mid new → Appends old new (text_before_stop (replies_of files terms start (handled files terms (arrivals ++ more))))
 more_written files terms start arrivals more old mid new before after = text_wrote (reply_texts files terms) start arrivals more old mid new (replies_laws files terms) before after
 
--- what was told is the answer
+-- what was reported is the answer
 pub has_answered : (files : List File) (terms : Terms) (input old new : Option (List ℕ)) (outcome : Outcome) → WritesWhole (reply_texts files terms) files terms input old new outcome → Answers files terms input old new outcome
 has_answered files terms input old new outcome h = answered files terms input old new outcome h.read h.written h.outcome_is
 

@@ -27,7 +27,7 @@ use Rattle.reference.specs.Outcomes.{IfCutShort, IfTooMany}
 use Rattle.arrivals.specs.declared.incoming.Origin.{Origin}
 use Rattle.captures.specs.declared.pass_fault.PassFault.{PassFault}
 use Rattle.captures.specs.declared.pass_fault.PassFault.TheVariants.{Capture, TooMany, Memory, Write as Unwritten}
-use Rattle.replay.specs.Totals.{AreBelow, no_counts, totals_of, noted, decided_totals, Decides}
+use Rattle.replay.specs.Totals.{AreBelow, no_counts, totals_of, with_reply, decided_totals, Decides}
 use Rattle.replay.specs.Serving.{Counted, DeciderAfter, AreBy, IsOnTime, records_after}
 use Rattle.http_requests.specs.declared.messages.Message.{Message}
 use Rattle.arrivals.specs.Connections.{arrivals_with}
@@ -105,7 +105,7 @@ pub decider_rejected : (decider : Decider) (controller : Standing) (rejected : L
     → decider_with decider controller rejected decider.totals.samples ≡ decider_then decider controller decider.totals.samples true
 decider_rejected decider controller rejected e = rw e refl
 
--- a request that was turned away is told so, another is answered by its outcome
+-- a request that was turned away is answered so, another is answered by its outcome
 pub given_away : (X : Type 0) (files : List File) (choice : Choice) (what : Meaning) (seconds : ℕ) (given_by : Given X) → seconds ≡ choice.served.retry_after → given_by ≡ Plain (ServiceUnavailable seconds)
     → given_by ≡ given files choice.served true what
 given_away X files choice what seconds given_by e is = is ∙ rw e refl
@@ -125,7 +125,7 @@ if_ok (Err e) P Q f h = tt
 
 -- the totals of one more message
 totals_more : (files : List File) (terms : Terms) (arrivals : List Arrival) (a : Arrival) (away : Bool) → away ≡ is_turned_away files terms arrivals a
-    → noted (decided_totals (totals_of files terms arrivals) (samples_of (station_for terms) (offers_of files terms arrivals ++ offer_at files terms a.origin a.message.what)) away) (status_of (given {X = Unit {0}} files terms away a.message.what)) (breaks_a_rule a.message.what)
+    → with_reply (decided_totals (totals_of files terms arrivals) (samples_of (station_for terms) (offers_of files terms arrivals ++ offer_at files terms a.origin a.message.what)) away) (status_of (given {X = Unit {0}} files terms away a.message.what)) (breaks_a_rule a.message.what)
     ≡ totals_of files terms (arrivals ++ a ∷ [])
 totals_more files terms arrivals a away e =
     let len : length (arrivals ++ a ∷ []) ≡ length arrivals + 1 = length-append arrivals (a ∷ []) in
@@ -160,7 +160,7 @@ pub stands_more : (files : List File) (terms : Terms) (arrivals : List Arrival) 
     → IsOnTime terms.speed a.origin.tick old.controller.clock
     → Decides (offers_of files terms arrivals) (offer_at files terms a.origin a.message.what) old mid away
     → status ≡ status_of (given {X = Unit {0}} files terms away a.message.what)
-    → new.controller ≡ mid.controller → new.totals ≡ noted mid.totals status (breaks_a_rule a.message.what)
+    → new.controller ≡ mid.controller → new.totals ≡ with_reply mid.totals status (breaks_a_rule a.message.what)
     → length arrivals < 536870912 → DeciderAfter files terms (arrivals ++ a ∷ []) new
 stands_more files terms arrivals a away old mid new status stands by decides given_by same counted few =
     let away_is : away ≡ is_turned_away files terms arrivals a = rw stands.station at decides.is_away in
@@ -204,7 +204,7 @@ bypassed_room files terms arrivals decider n stands lt =
 
 -- ---- one message at the decider
 
--- what the decider has made of a message that is told this
+-- what the decider has made of a message that is answered this
 abbrev pub Judged : {X : Type 0} → List File → Terms → List Offer → Origin → Meaning → Decider → Decider → Given X → Type 0
 Judged files terms offers origin what old mid given_by = (away : Bool) × Decides offers (offer_at files terms origin what) old mid away × (given_by ≡ given files terms away what)
 
@@ -219,7 +219,7 @@ counts_kept X files terms arrivals origin what old mid given_by n stands judged 
 
 pub stands_after : (X : Type 0) (files : List File) (terms : Terms) (arrivals : List Arrival) (a : Arrival) (origin : Origin) (what : Meaning) (old mid : Decider) (totals : Totals) (given_by : Given X) → Counted files terms arrivals old → IsOnTime terms.speed a.origin.tick old.controller.clock
     → a.origin ≡ origin → a.message.what ≡ what → old.totals.answered < 536870912 → Judged files terms (offers_of files terms arrivals) origin what old mid given_by
-    → totals ≡ noted mid.totals (status_of given_by) (breaks_a_rule what)
+    → totals ≡ with_reply mid.totals (status_of given_by) (breaks_a_rule what)
     → DeciderAfter files terms (arrivals ++ a ∷ []) (record { start = mid.start; controller = mid.controller; totals = totals })
 stands_after X files terms arrivals a origin what old mid totals given_by stands by from meaning room judged counted =
     let e = answered_is files terms arrivals old stands in

@@ -4,20 +4,20 @@ use Rattle.std.specs.Prelude.{flat_map, Bool, true, false, ◌&&◌, Option, nat
 use Rattle.std.specs.List.{list_all}
 use Rattle.replay.specs.declared.pending.PendingReply.{PendingReply}
 use Rattle.replay.specs.declared.back.BackState.{BackState}
-use Rattle.replay.specs.declared.back.BackState.TheVariants.{Due as Waits, Fetched, Rendered}
+use Rattle.replay.specs.declared.back.BackState.TheVariants.{Pending, Fetched, Rendered}
 use Rattle.responses.specs.declared.slip.Persistence.{Persistence}
 use Rattle.responses.specs.declared.slip.Slip.{Slip}
 use Rattle.responses.specs.declared.slip.Given.{Given}
 use Rattle.responses.specs.declared.slip.Given.TheVariants as givens
 use Rattle.responses.specs.Reference.{reply_text}
 use Rattle.responses.specs.Replies.{OnlyHead, HasLocation}
-use Rattle.replay.specs.declared.pending.Due.{Due}
-use Rattle.replay.specs.declared.pending.Due.TheVariants.{Page, Ready}
-use Rattle.replay.specs.Backs.{only_head, has_location, can_render, is_due, is_back, reply_in, reply_to, back_after, back_step, slip_of_pending, given_by, given_elsewhere, due_elsewhere, pending_elsewhere, slip_elsewhere, elsewhere}
+use Rattle.replay.specs.declared.pending.PendingAnswer.{PendingAnswer}
+use Rattle.replay.specs.declared.pending.PendingAnswer.TheVariants.{Page, Ready}
+use Rattle.replay.specs.Backs.{only_head, has_location, can_render, is_answer, is_back, reply_in, reply_to, back_after, back_step, slip_of_pending, given_by, given_elsewhere, answer_elsewhere, pending_elsewhere, slip_elsewhere, elsewhere}
 use Rattle.std.proofs.lemmas.Bool.{leb-true}
 use Rattle.std.proofs.lemmas.Grind.{flat_map-append}
 use Rattle.std.proofs.lemmas.List.{map-append, append_assoc}
-use Rattle.stage_graph.specs.Crews.{AreSized}
+use Rattle.stage_graph.specs.Helpers.{AreSized}
 use Rattle.stage_graph.specs.Steps.{value_of}
 use Rattle.paths.specs.declared.file.File.{File}
 use Rattle.paths.proofs.Locations.{outcome_is}
@@ -90,7 +90,7 @@ same_values files tariff [] = refl
 same_values files tariff (m ∷ ms) =
     ap (λ v. v ∷ map (value_of (floor_step files tariff) 3) (map unseen ms)) (same_value files tariff m) ∙ ap (λ vs. front_value files tariff m ∷ vs) (same_values files tariff ms)
 
--- ---- lots of items
+-- ---- chunks of items
 
 -- one more item took a step
 pub stepped_more : {X V : Type 0} (f : X → V) (h : V → V) (done rest others items : List X) (new x : X) → rest ≡ x ∷ others → f new ≡ h (f x)
@@ -106,7 +106,7 @@ all_stepped : {V : Type 0} (step : ℕ → V → V) (n : ℕ) (vs : List V) → 
 all_stepped step n [] = refl
 all_stepped step n (v ∷ vs) = ap (λ l. step n (value_of step n v) ∷ l) (all_stepped step n vs)
 
--- steps that are done to all of a lot are done to each alone
+-- steps that are done to all of a chunk are done to each alone
 pub part_stepped : {W V : Type 0} (part : W → List V) (all : ℕ → W → W) (step : ℕ → V → V)
     → ((k : ℕ) (w : W) → part (all k w) ≡ map (step k) (part w)) → (n : ℕ) (w : W) → part (value_of all n w) ≡ map (value_of step n) (part w)
 part_stepped part all step each zero w = none_stepped step (part w)
@@ -114,65 +114,65 @@ part_stepped part all step each (suc n) w =
     each n (value_of all n w) ∙ (ap (map (step n)) (part_stepped part all step each n w) ∙ all_stepped step n (part w))
 
 -- what is made of each item of some lists, in lists or in all
-pub flat_map-mapped : {X V L : Type 0} (f : X → V) (items : L → List X) (lots : List L)
-    → flat_map (λ v. map f (items v)) lots ≡ map f (flat_map items lots)
+pub flat_map-mapped : {X V L : Type 0} (f : X → V) (items : L → List X) (chunks : List L)
+    → flat_map (λ v. map f (items v)) chunks ≡ map f (flat_map items chunks)
 flat_map-mapped f items [] = refl
-flat_map-mapped f items (v ∷ lots) =
-    ap (λ vs. map f (items v) ++ vs) (flat_map-mapped f items lots) ∙ sym (map-append f (items v) (flat_map items lots))
+flat_map-mapped f items (v ∷ chunks) =
+    ap (λ vs. map f (items v) ++ vs) (flat_map-mapped f items chunks) ∙ sym (map-append f (items v) (flat_map items chunks))
 
 each_stepped : {L W V : Type 0} (part : W → List V) (value : L → W) (all : ℕ → W → W) (step : ℕ → V → V) (n : ℕ)
-    → ((k : ℕ) (w : W) → part (all k w) ≡ map (step k) (part w)) → (lots : List L)
-    → flat_map (λ l. part (value_of all n (value l))) lots ≡ flat_map (λ l. map (value_of step n) (part (value l))) lots
+    → ((k : ℕ) (w : W) → part (all k w) ≡ map (step k) (part w)) → (chunks : List L)
+    → flat_map (λ l. part (value_of all n (value l))) chunks ≡ flat_map (λ l. map (value_of step n) (part (value l))) chunks
 each_stepped part value all step n each [] = refl
-each_stepped part value all step n each (l ∷ lots) =
-    ap (λ vs. vs ++ flat_map (λ l. part (value_of all n (value l))) lots) (part_stepped part all step each n (value l))
-    ∙ ap (λ vs. map (value_of step n) (part (value l)) ++ vs) (each_stepped part value all step n each lots)
+each_stepped part value all step n each (l ∷ chunks) =
+    ap (λ vs. vs ++ flat_map (λ l. part (value_of all n (value l))) chunks) (part_stepped part all step each n (value l))
+    ∙ ap (λ vs. map (value_of step n) (part (value l)) ++ vs) (each_stepped part value all step n each chunks)
 
 -- what each item of some lists gives, in lists or in all
-pub flat_map-flat : {X V L : Type 0} (f : X → List V) (items : L → List X) (lots : List L)
-    → flat_map (λ v. flat_map f (items v)) lots ≡ flat_map f (flat_map items lots)
+pub flat_map-flat : {X V L : Type 0} (f : X → List V) (items : L → List X) (chunks : List L)
+    → flat_map (λ v. flat_map f (items v)) chunks ≡ flat_map f (flat_map items chunks)
 flat_map-flat f items [] = refl
-flat_map-flat f items (v ∷ lots) =
-    ap (λ vs. flat_map f (items v) ++ vs) (flat_map-flat f items lots) ∙ sym (flat_map-append f (items v) (flat_map items lots))
+flat_map-flat f items (v ∷ chunks) =
+    ap (λ vs. flat_map f (items v) ++ vs) (flat_map-flat f items chunks) ∙ sym (flat_map-append f (items v) (flat_map items chunks))
 
 pub flat_map-states : {A B C : Type 0} (f : B → List C) (g : A → B) (xs : List A) → flat_map (λ x. f (g x)) xs ≡ flat_map f (map g xs)
 flat_map-states f g [] = refl
 flat_map-states f g (x ∷ xs) = ap (λ l. f (g x) ++ l) (flat_map-states f g xs)
 
-flat_parts : {L W V X : Type 0} (part : W → List V) (value : L → W) (items : L → List X) (one : X → V) → ((l : L) → part (value l) ≡ map one (items l)) → (lots : List L)
-    → map one (flat_map items lots) ≡ flat_map (λ l. part (value l)) lots
+flat_parts : {L W V X : Type 0} (part : W → List V) (value : L → W) (items : L → List X) (one : X → V) → ((l : L) → part (value l) ≡ map one (items l)) → (chunks : List L)
+    → map one (flat_map items chunks) ≡ flat_map (λ l. part (value l)) chunks
 flat_parts part value items one holds [] = refl
-flat_parts part value items one holds (l ∷ lots) =
-    map-append one (items l) (flat_map items lots)
-    ∙ (ap (λ vs. vs ++ map one (flat_map items lots)) (sym (holds l)) ∙ ap (λ vs. part (value l) ++ vs) (flat_parts part value items one holds lots))
+flat_parts part value items one holds (l ∷ chunks) =
+    map-append one (items l) (flat_map items chunks)
+    ∙ (ap (λ vs. vs ++ map one (flat_map items chunks)) (sym (holds l)) ∙ ap (λ vs. part (value l) ++ vs) (flat_parts part value items one holds chunks))
 
--- what lots hold that went through some steps
-pub lots_stepped : {L W V X : Type 0} (part : W → List V) (value : L → W) (items : L → List X) (one : X → V) (all : ℕ → W → W) (step : ℕ → V → V) (n : ℕ)
-    → ((l : L) → part (value l) ≡ map one (items l)) → ((k : ℕ) (w : W) → part (all k w) ≡ map (step k) (part w)) → (arrived lots : List L)
-    → map value arrived ≡ map (λ l. value_of all n (value l)) lots
-    → map one (flat_map items arrived) ≡ map (value_of step n) (map one (flat_map items lots))
-lots_stepped part value items one all step n holds each arrived lots values =
+-- what chunks hold that went through some steps
+pub chunks_stepped : {L W V X : Type 0} (part : W → List V) (value : L → W) (items : L → List X) (one : X → V) (all : ℕ → W → W) (step : ℕ → V → V) (n : ℕ)
+    → ((l : L) → part (value l) ≡ map one (items l)) → ((k : ℕ) (w : W) → part (all k w) ≡ map (step k) (part w)) → (arrived chunks : List L)
+    → map value arrived ≡ map (λ l. value_of all n (value l)) chunks
+    → map one (flat_map items arrived) ≡ map (value_of step n) (map one (flat_map items chunks))
+chunks_stepped part value items one all step n holds each arrived chunks values =
     flat_parts part value items one holds arrived
     ∙ (flat_map-states part value arrived
     ∙ (ap (flat_map part) values
-    ∙ (sym (flat_map-states part (λ l. value_of all n (value l)) lots)
-    ∙ (each_stepped part value all step n each lots
-    ∙ (flat_map-mapped (value_of step n) (λ l. part (value l)) lots
-    ∙ ap (map (value_of step n)) (sym (flat_parts part value items one holds lots)))))))
+    ∙ (sym (flat_map-states part (λ l. value_of all n (value l)) chunks)
+    ∙ (each_stepped part value all step n each chunks
+    ∙ (flat_map-mapped (value_of step n) (λ l. part (value l)) chunks
+    ∙ ap (map (value_of step n)) (sym (flat_parts part value items one holds chunks)))))))
 
--- lots that went through the same steps by another name
-pub same_steps : {L V : Type 0} (content seen : L → V) (step same : ℕ → V → V) (n : ℕ) (arrived lots : List L) → step ≡ same → content ≡ seen
-    → map content arrived ≡ map (λ x. value_of step n (content x)) lots → map seen arrived ≡ map (λ x. value_of same n (seen x)) lots
-same_steps {L} {V} content seen step same n arrived lots steps contents values =
-    subst (λ (s : ℕ → V → V). map seen arrived ≡ map (λ x. value_of s n (seen x)) lots) steps
-    (subst (λ (k : L → V). map k arrived ≡ map (λ x. value_of step n (k x)) lots) contents values)
+-- chunks that went through the same steps by another name
+pub same_steps : {L V : Type 0} (content seen : L → V) (step same : ℕ → V → V) (n : ℕ) (arrived chunks : List L) → step ≡ same → content ≡ seen
+    → map content arrived ≡ map (λ x. value_of step n (content x)) chunks → map seen arrived ≡ map (λ x. value_of same n (seen x)) chunks
+same_steps {L} {V} content seen step same n arrived chunks steps contents values =
+    subst (λ (s : ℕ → V → V). map seen arrived ≡ map (λ x. value_of s n (seen x)) chunks) steps
+    (subst (λ (k : L → V). map k arrived ≡ map (λ x. value_of step n (k x)) chunks) contents values)
 
-pub same_sizes : {L : Type 0} (count len : L → ℕ) (size : ℕ) (lots : List L) → count ≡ len → AreSized len size lots → AreSized count size lots
-same_sizes {L} count len size lots counts sized = subst (λ (k : L → ℕ). AreSized k size lots) (sym counts) sized
+pub same_sizes : {L : Type 0} (count len : L → ℕ) (size : ℕ) (chunks : List L) → count ≡ len → AreSized len size chunks → AreSized count size chunks
+same_sizes {L} count len size chunks counts sized = subst (λ (k : L → ℕ). AreSized k size chunks) (sym counts) sized
 
 -- ---- the same at another type of pages
 
-given_same : {X Y : Type 0} (d : Due X) → given_by {X = Y} (due_elsewhere d) ≡ given_elsewhere (given_by d)
+given_same : {X Y : Type 0} (d : PendingAnswer X) → given_by {X = Y} (answer_elsewhere d) ≡ given_elsewhere (given_by d)
 given_same (Page file mtime) = refl
 given_same (Ready what) = refl
 
@@ -180,7 +180,7 @@ abbrev slip_with : {X : Type 0} → ℕ → ℕ → ℕ → Bool → Persistence
 slip_with number conn date head link what = record { number = number; conn = conn; date = date; head = head; link = link; what = what }
 
 slip_same : {X Y : Type 0} (t : PendingReply X) → slip_of_pending {X = Y} (pending_elsewhere t) ≡ slip_elsewhere (slip_of_pending t)
-slip_same {X} {Y} t = ap (λ (w : Given Y). slip_with t.number t.conn t.date t.head t.link w) (given_same t.due)
+slip_same {X} {Y} t = ap (λ (w : Given Y). slip_with t.number t.conn t.date t.head t.link w) (given_same t.answer)
 
 text_go : {X : Type 0} (Y : Type 0) (files : List File) (number conn date : ℕ) (head : Bool) (link : Persistence) (what : Given X)
     → reply_text files (slip_with {X = Y} number conn date head link (given_elsewhere what)) ≡ reply_text files (slip_with number conn date head link what)
@@ -194,22 +194,22 @@ reply_same : {X : Type 0} (Y : Type 0) (files : List File) (s : Slip X) → repl
 reply_same Y files s = ap (λ x. (s.number, s.conn, x)) (text_go Y files s.number s.conn s.date s.head s.link s.what)
 
 pub step_same : {X Y : Type 0} (files : List File) (s : BackState X) → elsewhere {Y = Y} (back_after files s) ≡ back_after files (elsewhere s)
-step_same {X} {Y} files (Waits t) = ap (λ (x : Slip Y). Fetched x) (sym (slip_same t))
+step_same {X} {Y} files (Pending t) = ap (λ (x : Slip Y). Fetched x) (sym (slip_same t))
 step_same {X} {Y} files (Fetched s) = ap (λ r. Rendered r) (sym (reply_same Y files s))
 step_same files (Rendered r) = refl
 
 pub reply_elsewhere : {X : Type 0} (Y : Type 0) (s : BackState X) → reply_in (elsewhere {Y = Y} s) ≡ reply_in s
-reply_elsewhere Y (Waits t) = refl
+reply_elsewhere Y (Pending t) = refl
 reply_elsewhere Y (Fetched s) = refl
 reply_elsewhere Y (Rendered r) = refl
 
 -- all that is rendered are replies
 pub all_rendered : {X : Type 0} (Y : Type 0) (files : List File) (ts : List (PendingReply X))
-    → flat_map reply_in (map (value_of (back_step files) 2) (map {B = BackState Y} (λ t. Waits (pending_elsewhere t)) ts)) ≡ map (λ t. reply_to files (slip_of_pending t)) ts
+    → flat_map reply_in (map (value_of (back_step files) 2) (map {B = BackState Y} (λ t. Pending (pending_elsewhere t)) ts)) ≡ map (λ t. reply_to files (slip_of_pending t)) ts
 all_rendered Y files [] = refl
 all_rendered Y files (t ∷ ts) =
     let one : reply_to files (slip_of_pending {X = Y} (pending_elsewhere t)) ≡ reply_to files (slip_of_pending t) = ap (reply_to files) (slip_same t) ∙ reply_same Y files (slip_of_pending t) in
-    ap (λ r. r ∷ flat_map reply_in (map (value_of (back_step files) 2) (map {B = BackState Y} (λ t. Waits (pending_elsewhere t)) ts))) one ∙ ap (λ rs. reply_to files (slip_of_pending t) ∷ rs) (all_rendered Y files ts)
+    ap (λ r. r ∷ flat_map reply_in (map (value_of (back_step files) 2) (map {B = BackState Y} (λ t. Pending (pending_elsewhere t)) ts))) one ∙ ap (λ rs. reply_to files (slip_of_pending t) ∷ rs) (all_rendered Y files ts)
 
 -- ---- reading a list to its end
 
@@ -231,16 +231,16 @@ and_left true b e = refl
 and_left false b e = e
 
 -- its slip may be rendered
-pub may_render : {X : Type 0} (files : List File) (t : PendingReply X) → is_back files (Waits t) ≡ true
-    → (t.date ≤ 253402300799) × OnlyHead t.head (given_by t.due) × HasLocation (given_by t.due) × (is_due files t.due ≡ true)
+pub may_render : {X : Type 0} (files : List File) (t : PendingReply X) → is_back files (Pending t) ≡ true
+    → (t.date ≤ 253402300799) × OnlyHead t.head (given_by t.answer) × HasLocation (given_by t.answer) × (is_answer files t.answer ≡ true)
 may_render files t ready =
     let slip = slip_of_pending t in
-    let can = and_left (can_render slip) (is_due files t.due) ready in
-    let rest = and_right (nat_le t.date 253402300799) (only_head t.head (given_by t.due) && has_location (given_by t.due)) can in (
-      leb-true t.date 253402300799 (and_left (nat_le t.date 253402300799) (only_head t.head (given_by t.due) && has_location (given_by t.due)) can),
-      known t.head (given_by t.due) (and_left (only_head t.head (given_by t.due)) (has_location (given_by t.due)) rest),
-      placed (given_by t.due) (and_right (only_head t.head (given_by t.due)) (has_location (given_by t.due)) rest),
-      and_right (can_render slip) (is_due files t.due) ready,
+    let can = and_left (can_render slip) (is_answer files t.answer) ready in
+    let rest = and_right (nat_le t.date 253402300799) (only_head t.head (given_by t.answer) && has_location (given_by t.answer)) can in (
+      leb-true t.date 253402300799 (and_left (nat_le t.date 253402300799) (only_head t.head (given_by t.answer) && has_location (given_by t.answer)) can),
+      known t.head (given_by t.answer) (and_left (only_head t.head (given_by t.answer)) (has_location (given_by t.answer)) rest),
+      placed (given_by t.answer) (and_right (only_head t.head (given_by t.answer)) (has_location (given_by t.answer)) rest),
+      and_right (can_render slip) (is_answer files t.answer) ready,
     )
   where
     known : {X : Type 0} (head : Bool) (what : Given X) → only_head head what ≡ true → OnlyHead head what

@@ -15,7 +15,7 @@ use Rattle.replay.specs.Backs.{is_back, slip_of_pending, reply_to}
 use Rattle.replay.specs.Groups.{all_of, records_of}
 use Rattle.replay.specs.Waiting.{incoming_of, AreLookedUp, Upcoming}
 use Rattle.replay.specs.declared.pending.PendingReply.{PendingReply}
-use Rattle.replay.specs.declared.back.BackState.TheVariants.{Due as Waits}
+use Rattle.replay.specs.declared.back.BackState.TheVariants.{Pending}
 use Rattle.replay.specs.declared.decider.Decider.{Decider}
 use Rattle.replay.proofs.PendingReplies.{Settled, Next, next_is, settled_more, settled_last}
 use Rattle.replay.proofs.Upcoming.{looked_up_are}
@@ -44,7 +44,7 @@ pub settled_next : {X : Type 0} (files : List File) (terms : Terms) (tariff : Ta
     (message : Incoming) → SettledOf files terms tariff messages old now rest pending_replies k → rest ≡ message ∷ after
     → ((arrivals : List Arrival) (a : Arrival) → DeciderAfter files terms arrivals now → incoming_of a ≡ message → DeciderAfter files terms (arrivals ++ a ∷ []) next)
     → ((arrivals : List Arrival) (a : Arrival) → DeciderAfter files terms arrivals now → incoming_of a ≡ message → slip_of_pending t ≡ slip_of files terms now.start (handled_next files terms arrivals a))
-    → is_back files (Waits t) ≡ true → next.start ≡ now.start
+    → is_back files (Pending t) ≡ true → next.start ≡ now.start
     → SettledOf files terms tariff messages old next after (pending_replies ++ t ∷ []) (k + 1)
 settled_next files terms tariff messages old now next rest after pending_replies t k message settled steps stands slip ready start =
     settled_more files terms tariff (map (front_value files tariff) messages) old now next (map (front_value files tariff) rest) (map (front_value files tariff) after) pending_replies t k

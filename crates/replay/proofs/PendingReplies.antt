@@ -13,7 +13,7 @@ use Rattle.replay.specs.Waiting.{incoming_of, AreLookedUp, InTime}
 use Rattle.arrivals.specs.declared.incoming.Incoming.{Incoming}
 use Rattle.replay.specs.declared.lookup.LookedUp.{LookedUp}
 use Rattle.replay.specs.declared.pending.PendingReply.{PendingReply}
-use Rattle.replay.specs.declared.back.BackState.TheVariants.{Due as Waits}
+use Rattle.replay.specs.declared.back.BackState.TheVariants.{Pending}
 use Rattle.replay.specs.declared.decider.Decider.{Decider}
 use Rattle.reference.proofs.Offering.{handled_more, handled_one}
 use Rattle.replay.proofs.Judging.{answered_is}
@@ -25,7 +25,7 @@ pub record Settled {X : Type 0} (files : List File) (terms : Terms) (tariff : Ta
   pub stands : (arrivals more : List Arrival) → DeciderAfter files terms arrivals old → AreLookedUp files tariff more lookups → DeciderAfter files terms (arrivals ++ take k more) now
   pub slips : (arrivals more : List Arrival) → DeciderAfter files terms arrivals old → AreLookedUp files tariff more lookups
       → map slip_of_pending pending_replies ≡ map (slip_of files terms old.start) (handled_after files terms arrivals (take k more))
-  pub ready : list_all (λ t. is_back files (Waits t)) pending_replies ≡ true
+  pub ready : list_all (λ t. is_back files (Pending t)) pending_replies ≡ true
   pub start : now.start ≡ old.start
 
 -- the element of a list that a place of its image shows
@@ -114,7 +114,7 @@ pub settled_more : {X : Type 0} (files : List File) (terms : Terms) (tariff : Ta
     (s : LookedUp) → Settled files terms tariff lookups old now rest pending_replies k → rest ≡ s ∷ after
     → ((arrivals : List Arrival) (a : Arrival) → DeciderAfter files terms arrivals now → incoming_of a ≡ s.message → DeciderAfter files terms (arrivals ++ a ∷ []) next)
     → ((arrivals : List Arrival) (a : Arrival) → DeciderAfter files terms arrivals now → incoming_of a ≡ s.message → slip_of_pending t ≡ slip_of files terms now.start (handled_next files terms arrivals a))
-    → is_back files (Waits t) ≡ true → next.start ≡ now.start
+    → is_back files (Pending t) ≡ true → next.start ≡ now.start
     → Settled files terms tariff lookups old next after (pending_replies ++ t ∷ []) (k + 1)
 settled_more {X} files terms tariff lookups old now next rest after pending_replies t k s settled steps stands slip ready start = rw (one_more k) (record {
   count = (let e = settled.count in let l = length-append pending_replies (t ∷ []) in omega (arith, e, l));
@@ -135,7 +135,7 @@ settled_more {X} files terms tariff lookups old now next rest after pending_repl
         own,
         settled.start,
       ) refl);
-  ready = list_all-push (λ t. is_back files (Waits t)) pending_replies t settled.ready ready;
+  ready = list_all-push (λ t. is_back files (Pending t)) pending_replies t settled.ready ready;
   start = start ∙ settled.start;
 })
   where

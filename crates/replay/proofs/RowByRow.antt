@@ -98,7 +98,7 @@ row_is X files terms start arrivals a origin tick charge found slip pools row fr
 
 -- ---- one row written
 
--- the decider stands for the same messages after it was asked what a request finds
+-- the decider has seen the same messages after it was asked what a request finds
 pub stands_still : (files : List File) (terms : Terms) (arrivals : List Arrival) (decider : Decider) (controller : Standing) → StandsAsBefore decider.controller controller → Counted files terms arrivals decider
     → Counted files terms arrivals (record { start = decider.start; controller = controller; totals = decider.totals })
 stands_still files terms arrivals decider controller same stands = record {

@@ -99,7 +99,7 @@ own_step_leaves files terms most version text begun p p-after ahead ahead-after 
     ])
     cut)
 
--- what stands after a step, by what it answers
+-- what is written after a step, by what it answers
 pub goes_on : (more : Bool) (files : List File) (terms : Terms) (most : ℕ) (version : Version) (text begun : Option (List ℕ)) (p : Progress) (ahead : Option (List ℕ)) (tiers : List ℕ) (places : List SeatState) (decider : Decider) (written : Option (List ℕ))
     → more ≡ true → Stepped more files terms most version text begun p ahead tiers places decider written → Between files terms most version text begun p ahead tiers places decider written
 goes_on more files terms most version text begun p ahead tiers places decider written is h = rw is at h
@@ -108,7 +108,7 @@ pub is_over : (more : Bool) (files : List File) (terms : Terms) (most : ℕ) (ve
     → more ≡ false → Stepped more files terms most version text begun p ahead tiers places decider written → AtEnd files terms most version text begun places decider written
 is_over more files terms most version text begun p ahead tiers places decider written is h = rw is at h
 
--- what stands where a replay stopped, out of its record
+-- what is written where a replay stopped, out of its record
 pub left_so : {T : Type 0} (r : Result T PassFault) (t : Texts) (input ahead old new : Option (List ℕ)) → IfErr r (Stopped t input ahead old new) → IfErr r (Leaves t input ahead old new)
 left_so (Ok x) t input ahead old new h = tt
 left_so (Err f) t input ahead old new h = h.leaves

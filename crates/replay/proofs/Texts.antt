@@ -1,4 +1,4 @@
--- What is told of messages: its text, of one more message and to its end.
+-- What is reported of messages: its text, of one more message and to its end.
 use Rattle.std.proofs.Common.{◌≡◌, ℕ, List, [], ◌++◌, length, Option}
 use Rattle.std.specs.Io.KnownBytes.{Appends}
 use Rattle.devices.proofs.Appending.{appends_none, appends_then, prefix_then}

@@ -66,7 +66,7 @@ text_more files terms start arrivals more =
 pub replies_count : (files : List File) (terms : Terms) (start : ℕ) (arrivals : List Arrival) → length (replies_of files terms start (handled files terms arrivals)) ≡ length arrivals
 replies_count files terms start arrivals = length-map (handled files terms arrivals) (reply_of files terms start) ∙ handled_count files terms [] arrivals
 
--- the replies are told from the first line to the last
+-- the replies are reported from the first line to the last
 pub replies_laws : (files : List File) (terms : Terms) → AreTexts (reply_texts files terms)
 replies_laws files terms = record {
   begins = text_none files terms;

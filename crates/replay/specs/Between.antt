@@ -1,4 +1,4 @@
--- How the staged engine stands between two steps: each takes the next record, or the next batch, and answers the
+-- The state of the staged engine between two steps: each takes the next record, or the next batch, and answers the
 -- messages that arrive with it.
 use Rattle.std.specs.Prelude.{◌≡◌, ℕ, ◌≤◌, Bool, true, false, List, [], Option}
 use Rattle.std.specs.Io.KnownBytes.{Appends}

@@ -62,8 +62,8 @@ abbrev pub lookup_of : List File → Tariff → Meaning → Lookup
 lookup_of files tariff what = lookup_after files tariff what
     (lookup_after files tariff what (lookup_after files tariff what Unseen))
 
--- A target that was read is worth what it is found to ask for: one that names a file as it stands is looked up where it
--- is read.
+-- A target that was read is worth what it is found to ask for: one that names a file literally is looked up where it is
+-- read.
 abbrev pub seen_as : List File → Lookup → Lookup
 seen_as files (Asked a) = Found (outcome files a)
 seen_as files Unseen = Unseen

@@ -6,10 +6,10 @@ use Rattle.paths.specs.Reference.{file_of}
 use Rattle.responses.specs.Reference.{record_text}
 use Rattle.replay.specs.Backs.{slip_of_pending, reply_to}
 use Rattle.replay.specs.declared.pending.PendingReply.{PendingReply}
-use Rattle.replay.specs.declared.pending.Due.{Due}
-use Rattle.replay.specs.declared.pending.Due.TheVariants.{Page, Ready}
+use Rattle.replay.specs.declared.pending.PendingAnswer.{PendingAnswer}
+use Rattle.replay.specs.declared.pending.PendingAnswer.TheVariants.{Page, Ready}
 
--- what stands in these groups, in order
+-- the items of these groups, in order
 abbrev pub all_of : {A : Type 0} → List (List A) → List A
 all_of groups = flat_map (λ group. group) groups
 
@@ -18,39 +18,40 @@ abbrev pub records_of : {X : Type 0} → List File → List (PendingReply X) →
 records_of files pending_replies = flat_map record_text (map (λ t. reply_to files (slip_of_pending t)) pending_replies)
 
 -- the bytes of the file that a reply waits for the page of
-abbrev pub due_len : {X : Type 0} → List File → Due X → ℕ
-due_len files (Page file mtime) = length (file_of files file).bytes
-due_len files (Ready given) = 0
+abbrev pub answer_len : {X : Type 0} → List File → PendingAnswer X → ℕ
+answer_len files (Page file mtime) = length (file_of files file).bytes
+answer_len files (Ready given) = 0
 
 abbrev pub page_len : {X : Type 0} → List File → PendingReply X → ℕ
-page_len files pending = due_len files pending.due
+page_len files pending = answer_len files pending.answer
 
--- How many bytes of pages the replies of a group may hold: any number where the cache has room for the pages of all
+-- How many bytes of pages the replies of a group may hold: any number where the cache has capacity for the pages of all
 -- files, with 256 bytes for the fields of each; else 32 MiB.
-abbrev pub room_for_pages : List File → ℕ → Option ℕ
-room_for_pages files cache =
+abbrev pub page_capacity : List File → ℕ → Option ℕ
+page_capacity files cache =
     if nat_le (sum_by (λ file. length file.bytes + 256) files) cache then None else (Some 33554432)
 
--- the pages of a group have room, or are one page alone
-abbrev pub HasRoom : {A : Type 0} → (A → ℕ) → ℕ → List A → Type 0
-HasRoom len room group = (sum_by len group ≤ room) ⊎ (length (filter (λ x. nat_lt 0 (len x)) group) ≤ 1)
+-- the pages of a group fit, or are one page alone
+abbrev pub Fits : {A : Type 0} → (A → ℕ) → ℕ → List A → Type 0
+Fits len capacity group = (sum_by len group ≤ capacity) ⊎ (length (filter (λ x. nat_lt 0 (len x)) group) ≤ 1)
 
 -- of the first of a group
 abbrev pub first_len : {A : Type 0} → (A → ℕ) → List A → ℕ
 first_len len [] = 0
 first_len len (x ∷ group) = len x
 
--- Each group has room, and one ends only where the next page has none beside those before it.
+-- Each group fits, and one ends only where the next page doesn't fit beside those before it.
 abbrev pub AreGroups : {A : Type 0} → (A → ℕ) → ℕ → List (List A) → Type 0
-AreGroups len room [] = ⊥
-AreGroups len room (group ∷ []) = HasRoom len room group
-AreGroups len room (group ∷ next ∷ groups) =
-    HasRoom len room group × (room < sum_by len group + first_len len next) × AreGroups len room (next ∷ groups)
+AreGroups len capacity [] = ⊥
+AreGroups len capacity (group ∷ []) = Fits len capacity group
+AreGroups len capacity (group ∷ next ∷ groups) =
+    Fits len capacity group × (capacity < sum_by len group + first_len len next)
+    × AreGroups len capacity (next ∷ groups)
 
--- with room for any number of bytes there is one group
+-- with a capacity for any number of bytes there is one group
 abbrev pub AreGroupsFor : {A : Type 0} → (A → ℕ) → Option ℕ → List (List A) → Type 0
 AreGroupsFor len None groups = length groups ≡ 1
-AreGroupsFor len (Some room) groups = AreGroups len room groups
+AreGroupsFor len (Some capacity) groups = AreGroups len capacity groups
 
 -- a group that is full was put after the others, and nothing is left of it; else it is what is left, with what it holds
 abbrev pub Lays : {A : Type 0} → Bool → List (List A) → List A → ℕ → List (List A) → List A → ℕ → Type 0

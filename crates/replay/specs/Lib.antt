@@ -1,8 +1,9 @@
 pub mod Backs
 pub mod Between
+pub mod Floors
 pub mod Fronts
 pub mod Groups
-pub mod Lots
+pub mod Chunks
 pub mod Replayed
 pub mod Rowing
 pub mod Serving

@@ -1,4 +1,4 @@
--- How an engine stands between two messages, and between two records.
+-- The state of an engine between two messages, and between two records.
 use Rattle.std.specs.Prelude.{◌≡◌, ℕ, ◌+◌, ◌*◌, ◌/◌, ◌<◌, ◌≤◌, List, ◌++◌, length, take, All, Option}
 use Rattle.std.specs.Prelude.{flat_map}
 use Rattle.std.specs.Io.KnownBytes.{Appends}

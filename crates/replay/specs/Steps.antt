@@ -1,6 +1,6 @@
 -- What a step of an engine does to its decider and writes, whatever was decided on before it: the next message, the
 -- messages of a piece, those that come next in a batch, and the next records.
-use Rattle.std.specs.Prelude.{◌≡◌, ℕ, List, [], ◌∷◌, ◌++◌, map, take, Option}
+use Rattle.std.specs.Prelude.{◌≡◌, ℕ, ◌+◌, ◌<◌, ◌≤◌, List, [], ◌∷◌, ◌++◌, length, map, take, Option}
 use Rattle.captures.specs.declared.record.Record.{Record}
 use Rattle.http_requests.specs.declared.messages.Message.{Message}
 use Rattle.http_requests.specs.declared.messages.Meaning.{Meaning}
@@ -129,6 +129,18 @@ abbrev pub WritesFirstInPart : ℕ → List File → Terms → List Incoming →
 WritesFirstInPart i files terms messages decider old new = (arrivals more : List Arrival)
     → Upcoming files terms arrivals more messages decider
     → WrittenInPart files terms decider.start arrivals (take i more) old new
+
+-- they are more than the most that are answered, n, and the replies to those within it were written; a prefix of the
+-- replies to those within it was
+abbrev pub FillsWithComing : ℕ → List File → Terms → List Incoming → Decider → Option (List ℕ) → Option (List ℕ) → ℕ
+    → Type 0
+FillsWithComing most files terms messages decider old new n = (n ≡ most) × (i : ℕ) × (i < length messages)
+    × (decider.totals.answered + i ≡ most) × WritesFirst i files terms messages decider old new
+
+abbrev pub AnswersComingInPart : ℕ → List File → Terms → List Incoming → Decider → Option (List ℕ) → Option (List ℕ)
+    → Type 0
+AnswersComingInPart most files terms messages decider old new = (i : ℕ) × (i ≤ length messages)
+    × (decider.totals.answered + i ≤ most) × WritesFirstInPart i files terms messages decider old new
 
 -- the records whose pieces wait at the seats were read, and the messages that arrived with them were answered
 abbrev pub AnswersBatch : List File → Terms → List SeatState → List Origin → Decider → List SeatState → Decider

@@ -43,8 +43,8 @@ totals_of files terms arrivals = record {
 }
 
 -- the totals with one more message, of this status
-abbrev pub noted : Totals → ℕ → Bool → Totals
-noted t status breaks = record {
+abbrev pub with_reply : Totals → ℕ → Bool → Totals
+with_reply t status breaks = record {
   answered = t.answered + 1;
   counts = with_status t.counts status;
   bypassed = t.bypassed + (if breaks then 1 else 0);

@@ -10,14 +10,16 @@ ghost use Rattle.captures.specs.Passes.{BlamesReader, leaves_reads_untold, reade
 ghost use Rattle.arrivals.specs.Reference.{Arrival};
 ghost use Rattle.reference.specs.Outcomes.{IfTooMany, IfCutShort, IsOwn, Leaves};
 ghost use Rattle.reference.specs.Texts.{reply_texts};
+ghost use Rattle.replay.specs.Floors.{served_by};
 ghost use Rattle.replay.specs.Between.{Between, Stepped};
-ghost use Rattle.replay.specs.Lots.{AreFloorSteps};
+ghost use Rattle.replay.specs.Chunks.{AreFloorSteps};
 ghost use Rattle.replay.specs.Steps.{AnswersBatch, FillsWithBatch, AnswersBatchInPart};
 ghost use Rattle.replay.specs.Waiting.{ComeNext, Waiting};
 
+use crate::chunks::{Chunk, ChunkValue};
 use crate::decider::Decider;
-use crate::lots::{Lot, LotValue};
-use crate::parts::{Floors, serve_parts};
+use crate::floors::Floors;
+use crate::parts::serve_parts;
 use crate::plain::answer_record;
 use crate::replies::Replies;
 use crate::serving::Pricing;
@@ -41,7 +43,7 @@ fn serve_batch<
     F: Tree,
     K: Pricing,
     Q,
-    C: Carries<Lot = Lot<F>, Value = LotValue, Register = Q>,
+    C: Carries<Chunk = Chunk<F>, Value = ChunkValue, Register = Q>,
     G: Gate,
     T: Threads + Wait + Sync,
     W: Write,
@@ -55,21 +57,21 @@ fn serve_batch<
     requires can { AreFloorSteps F.files K.tariff C.step C.content C.count }
     requires start { decider.old.start ≤ max_start }
     requires next { (records : List ARecord) × (rs : List ARecord) × (arrivals : List Arrival)
-        × ComeNext F.files floors.now.serving.now.server.served records rs arrivals seats origins.now decider.old }
+        × ComeNext F.files (served_by floors.now) records rs arrivals seats origins.now decider.old }
     requires limit { (decider.old.totals.answered ≤ floors.now.most)
         × (floors.now.most ≤ MAX_MESSAGES) }
     requires failures { CanFail writer.old }
     ensures serves { IfOk result
-        (λ after. AnswersBatch F.files floors.now.serving.now.server.served seats origins.now decider.old
+        (λ after. AnswersBatch F.files (served_by floors.now) seats origins.now decider.old
         after decider.new writer.old.bytes writer.new.bytes) }
     ensures idle { IfOk result (Waiting []) }
     ensures start { OnOk result (decider.new.start ≡ decider.old.start) }
     ensures within { OnOk result (decider.new.totals.answered ≤ floors.now.most) }
     ensures many { IfErr result (λ f. IfTooMany f (λ n. (n ≡ floors.now.most)
-        × FillsWithBatch floors.now.most F.files floors.now.serving.now.server.served seats origins.now decider.old
+        × FillsWithBatch floors.now.most F.files (served_by floors.now) seats origins.now decider.old
         writer.old.bytes writer.new.bytes)) }
     ensures part { IfErr result (λ f. IfCutShort f ((writer.new.bytes ≡ writer.old.bytes)
-        ⊎ AnswersBatchInPart floors.now.most F.files floors.now.serving.now.server.served seats origins.now decider.old
+        ⊎ AnswersBatchInPart floors.now.most F.files (served_by floors.now) seats origins.now decider.old
         writer.old.bytes writer.new.bytes)) }
     ensures failures { CountsBy writer_failures writer.old.failures writer.new.failures result }
     ensures own { IfErr result IsOwn }
@@ -88,7 +90,7 @@ fn serve_next_batch<
     F: Tree,
     K: Pricing,
     Q,
-    C: Carries<Lot = Lot<F>, Value = LotValue, Register = Q>,
+    C: Carries<Chunk = Chunk<F>, Value = ChunkValue, Register = Q>,
     G: Gate,
     T: Threads + Wait + Sync,
     R: Read,
@@ -103,18 +105,18 @@ fn serve_next_batch<
 ) -> Result<bool, ReplayFault>
     requires can { AreFloorSteps F.files K.tariff C.step C.content C.count }
     requires between { (version : AVersion) × (text : Option (List ℕ)) × (begun : Option (List ℕ))
-        × Between F.files floors.now.serving.now.server.served floors.now.most version text begun
+        × Between F.files (served_by floors.now) floors.now.most version text begun
         (progress_of capture.old) (device_of capture.old).bytes tiers.old seats.old decider.old writer.old.bytes }
     requires devices { CanFail (device_of capture.old) × CanFail writer.old }
     ensures on { IfOk result (λ more. (version : AVersion) (text begun : Option (List ℕ))
-        → Between F.files floors.now.serving.now.server.served floors.now.most version text begun
+        → Between F.files (served_by floors.now) floors.now.most version text begun
         (progress_of capture.old) (device_of capture.old).bytes tiers.old seats.old decider.old writer.old.bytes
-        → Stepped more F.files floors.now.serving.now.server.served floors.now.most version text begun
+        → Stepped more F.files (served_by floors.now) floors.now.most version text begun
         (progress_of capture.new) (device_of capture.new).bytes tiers.new seats.new decider.new writer.new.bytes) }
     ensures fault { IfErr result (λ f. (version : AVersion) (text begun : Option (List ℕ))
-        → Between F.files floors.now.serving.now.server.served floors.now.most version text begun
+        → Between F.files (served_by floors.now) floors.now.most version text begun
         (progress_of capture.old) (device_of capture.old).bytes tiers.old seats.old decider.old writer.old.bytes
-        → Leaves (reply_texts F.files floors.now.serving.now.server.served) text (device_of capture.new).bytes
+        → Leaves (reply_texts F.files (served_by floors.now)) text (device_of capture.new).bytes
         begun writer.new.bytes f) }
     ensures room { IfOk result (λ more. more ≡ true
         → (progress_of capture.new).room < (progress_of capture.old).room) }
@@ -144,7 +146,7 @@ pub(crate) fn serve_next<
     F: Tree,
     K: Pricing,
     Q,
-    C: Carries<Lot = Lot<F>, Value = LotValue, Register = Q>,
+    C: Carries<Chunk = Chunk<F>, Value = ChunkValue, Register = Q>,
     G: Gate,
     T: Threads + Wait + Sync,
     R: Read,
@@ -161,18 +163,18 @@ pub(crate) fn serve_next<
 ) -> Result<bool, ReplayFault>
     requires can { AreFloorSteps F.files K.tariff C.step C.content C.count }
     requires between { (version : AVersion) × (text : Option (List ℕ)) × (begun : Option (List ℕ))
-        × Between F.files floors.now.serving.now.server.served floors.now.most version text begun
+        × Between F.files (served_by floors.now) floors.now.most version text begun
         (progress_of capture.old) (device_of capture.old).bytes tiers.old seats.old decider.old writer.old.bytes }
     requires devices { CanFail (device_of capture.old) × CanFail writer.old }
     ensures on { IfOk result (λ more. (version : AVersion) (text begun : Option (List ℕ))
-        → Between F.files floors.now.serving.now.server.served floors.now.most version text begun
+        → Between F.files (served_by floors.now) floors.now.most version text begun
         (progress_of capture.old) (device_of capture.old).bytes tiers.old seats.old decider.old writer.old.bytes
-        → Stepped more F.files floors.now.serving.now.server.served floors.now.most version text begun
+        → Stepped more F.files (served_by floors.now) floors.now.most version text begun
         (progress_of capture.new) (device_of capture.new).bytes tiers.new seats.new decider.new writer.new.bytes) }
     ensures fault { IfErr result (λ f. (version : AVersion) (text begun : Option (List ℕ))
-        → Between F.files floors.now.serving.now.server.served floors.now.most version text begun
+        → Between F.files (served_by floors.now) floors.now.most version text begun
         (progress_of capture.old) (device_of capture.old).bytes tiers.old seats.old decider.old writer.old.bytes
-        → Leaves (reply_texts F.files floors.now.serving.now.server.served) text (device_of capture.new).bytes
+        → Leaves (reply_texts F.files (served_by floors.now)) text (device_of capture.new).bytes
         begun writer.new.bytes f) }
     ensures room { IfOk result (λ more. more ≡ true
         → (progress_of capture.new).room < (progress_of capture.old).room) }

@@ -3,12 +3,12 @@
 ghost use Rattle.std.specs.Prelude.{◌≡◌, ◌<◌, ◌≤◌, ◌-◌, ◌+◌, ◌^◌, true, length, ◌&&◌};
 ghost use Rattle.paths.specs.Reference.{file_of};
 ghost use Rattle.reference.specs.Reference.{fault_status, outcome_answer, persistence_of};
-ghost use Rattle.replay.specs.Backs.{given_by, only_head, has_location, is_due};
+ghost use Rattle.replay.specs.Backs.{given_by, only_head, has_location, is_answer};
 ghost use Rattle.paths.specs.Resolution.{IsOutcome};
 ghost use Rattle.page_cache.specs.Reference.{media_of};
 
 use crate::lookup::is_unmodified;
-use crate::pending::Due;
+use crate::pending::PendingAnswer;
 use http_requests::{HttpVersion, Meaning, MessageFault};
 use page_cache::MediaType;
 use paths::{Outcome, Snapshot, Tree};
@@ -40,21 +40,26 @@ pub(crate) fn known_file<F: Tree>(snapshot: &Snapshot, file: usize, mtime: u64) 
 }
 
 /// What a file is answered with.
-fn file_answer<F: Tree>(snapshot: &Snapshot, head: bool, since: Option<u64>, file: usize) -> Due<F>
+fn file_answer<F: Tree>(
+    snapshot: &Snapshot,
+    head: bool,
+    since: Option<u64>,
+    file: usize,
+) -> PendingAnswer<F>
     requires snapshot { snapshot.now ≡ F.files }
     requires file { file < length snapshot.now }
     ensures given_by { given_by result ≡ outcome_answer F.files head since (Outcome.File file) }
-    ensures due { is_due F.files result ≡ true }
+    ensures answer { is_answer F.files result ≡ true }
     ensures can { (only_head head (given_by result) && has_location (given_by result)) ≡ true }
 {
     let mtime = snapshot.mtime(file);
     if is_unmodified(since, mtime) {
-        return Due::Ready(Given::Unmodified { mtime });
+        return PendingAnswer::Ready(Given::Unmodified { mtime });
     }
     if head {
-        return Due::Ready(known_file(snapshot, file, mtime));
+        return PendingAnswer::Ready(known_file(snapshot, file, mtime));
     }
-    Due::Page { file, mtime }
+    PendingAnswer::Page { file, mtime }
 }
 
 /// What an outcome is answered with.
@@ -63,22 +68,22 @@ pub(crate) fn outcome_answer<F: Tree>(
     head: bool,
     since: Option<u64>,
     outcome: Outcome,
-) -> Due<F>
+) -> PendingAnswer<F>
     requires snapshot { snapshot.now ≡ F.files }
     requires is { IsOutcome F.files outcome }
     ensures given_by { given_by result ≡ outcome_answer F.files head since outcome }
-    ensures due { is_due F.files result ≡ true }
+    ensures answer { is_answer F.files result ≡ true }
     ensures can { (only_head head (given_by result) && has_location (given_by result)) ≡ true }
 {
     let status = match outcome {
         Outcome::File(file) => return file_answer(snapshot, head, since, file),
-        Outcome::Move(location) => return Due::Ready(Given::Moved { location }),
+        Outcome::Move(location) => return PendingAnswer::Ready(Given::Moved { location }),
         Outcome::Missing => Status::NotFound,
         Outcome::BadTarget => Status::BadRequest,
         Outcome::NotAllowed => Status::MethodNotAllowed,
         Outcome::NotKnown => Status::NotImplemented,
     };
-    Due::Ready(Given::Plain { status })
+    PendingAnswer::Ready(Given::Plain { status })
 }
 
 /// What the reply says of its connection.

@@ -3,17 +3,17 @@
 ghost use Rattle.std.specs.Prelude.{◌≡◌, ◌<◌, ◌++◌, true, List, length, map, flat_map, IfOk, OnOk};
 ghost use Rattle.std.specs.List.{list_all};
 ghost use Rattle.std.specs.Arc.{arc_value};
-ghost use Rattle.stage_graph.specs.Crews.{AreSized};
-ghost use Rattle.replay.specs.Lots.{AreFloorSteps, lot_len, decided_value};
-ghost use Rattle.replay.specs.declared.back.BackState.TheVariants.{Due as Waits};
-ghost use Rattle.replay.specs.Backs.{slip_of_pending, pending_elsewhere, is_back, can_render, is_due, reply_in};
+ghost use Rattle.stage_graph.specs.Helpers.{AreSized};
+ghost use Rattle.replay.specs.Chunks.{AreFloorSteps, chunk_len, decided_value, decided_in};
+ghost use Rattle.replay.specs.declared.back.BackState.TheVariants.{Pending};
+ghost use Rattle.replay.specs.Backs.{slip_of_pending, pending_elsewhere, is_back, can_render, is_answer, reply_in};
 ghost use Rattle.replay.specs.Backs.{reply_to, back_after};
 
+use crate::chunks::{Chunk, ChunkValue, Decided};
+use crate::floors::Floors;
 use crate::groups::page_len;
-use crate::lots::{Decided, Lot, LotValue};
-use crate::parts::Floors;
-use crate::pending::{Due, PendingReply};
-use crate::serving::{Pricing, Serving, empty_lot, laid_by, last_laid_by};
+use crate::pending::{PendingAnswer, PendingReply};
+use crate::serving::{Pricing, Serving, empty_chunk, laid_by, last_laid_by};
 use page_cache::{Page, PageCache};
 use paths::{Snapshot, Tree};
 use responses::{Given, Reply, SharedPage, Slip, render};
@@ -21,7 +21,7 @@ use stage_graph::{Before, Carries, Gate, Unrun};
 use std::alloc::{AllocError, Global};
 use std::sync::{Arc, Mutex, Wait};
 
-/// A page of more bytes ends its lot: it takes as long as many small ones.
+/// A page of more bytes ends its chunk: it takes as long as many small ones.
 const LARGE: usize = 16_384;
 
 /// Stands for a tree in a type where none is named.
@@ -38,7 +38,7 @@ impl Tree for Unnamed {
 #[derive(Drop)]
 pub enum BackState<F: Tree> {
     /// All but the page is there.
-    Due(PendingReply<F>),
+    Pending(PendingReply<F>),
     /// The page is there.
     Fetched(Slip<F>),
     Rendered(Reply<F>),
@@ -81,9 +81,9 @@ impl<'a, F: Tree, K: Pricing, T: Wait> Serving<'a, F, K, T> {
         Ok(SharedPage::new(page))
     }
 
-    /// Fetches the page of a pending reply, where one is due.
+    /// Fetches the page of a pending reply, where it needs one.
     fn fetch(&self, pending: PendingReply<F>) -> Result<Slip<F>, AllocError>
-        requires { is_due F.files pending.due ≡ true }
+        requires { is_answer F.files pending.answer ≡ true }
         ensures ok { IfOk result (λ slip. slip ≡ slip_of_pending pending) }
     {
         let PendingReply {
@@ -92,11 +92,11 @@ impl<'a, F: Tree, K: Pricing, T: Wait> Serving<'a, F, K, T> {
             date,
             head,
             link,
-            due,
+            answer,
         } = pending;
-        let what = match due {
-            Due::Ready(what) => what,
-            Due::Page { file, mtime } => Given::Page {
+        let what = match answer {
+            PendingAnswer::Ready(what) => what,
+            PendingAnswer::Page { file, mtime } => Given::Page {
                 page: self.page(file)?,
                 mtime,
             },
@@ -118,37 +118,37 @@ impl<'a, F: Tree, K: Pricing, T: Wait> Serving<'a, F, K, T> {
         ensures is { IfOk result (λ s. is_back F.files s ≡ true) }
     {
         match state {
-            BackState::Due(pending) => Ok(BackState::Fetched(self.fetch(pending)?)),
+            BackState::Pending(pending) => Ok(BackState::Fetched(self.fetch(pending)?)),
             BackState::Fetched(slip) => Ok(BackState::Rendered(render(self.server.alloc, slip)?)),
             BackState::Rendered(reply) => Ok(BackState::Rendered(reply)),
         }
     }
 }
 
-/// The pending replies in lots of at most so many. A large page ends its lot.
-fn back_lots<F: Tree>(
+/// The pending replies in chunks of at most so many. A large page ends its chunk.
+fn back_chunks<F: Tree>(
     alloc: Global,
     snapshot: &Snapshot,
     size: usize,
     pending_replies: Vec<PendingReply<F>>,
-) -> Result<Vec<Lot<F>>, AllocError>
+) -> Result<Vec<Chunk<F>>, AllocError>
     requires size { 0 < size }
-    requires ready { list_all (λ t. is_back F.files (Waits t)) pending_replies.items ≡ true }
-    ensures all { IfOk result (λ lots. map decided_value (flat_map (λ lot. lot.back.items) lots.items)
-        ≡ map (λ t. Waits (pending_elsewhere t)) pending_replies.items) }
-    ensures sized { IfOk result (λ lots. AreSized lot_len size lots.items) }
+    requires ready { list_all (λ t. is_back F.files (Pending t)) pending_replies.items ≡ true }
+    ensures all { IfOk result (λ chunks. map decided_value (decided_in chunks.items)
+        ≡ map (λ t. Pending (pending_elsewhere t)) pending_replies.items) }
+    ensures sized { IfOk result (λ chunks. AreSized chunk_len size chunks.items) }
 {
-    let mut lots = Vec::new(alloc);
-    let mut lot = empty_lot(alloc);
+    let mut chunks = Vec::new(alloc);
+    let mut chunk = empty_chunk(alloc);
     for pending in pending_replies {
         let ends = page_len(snapshot, &pending) > LARGE;
-        lot.back.push(Decided {
-            state: BackState::Due(pending),
+        chunk.back.push(Decided {
+            state: BackState::Pending(pending),
         })?;
-        lot = laid_by(alloc, size, ends, &mut lots, lot)?;
+        chunk = laid_by(alloc, size, ends, &mut chunks, chunk)?;
     }
-    last_laid_by(size, &mut lots, lot)?;
-    Ok(lots)
+    last_laid_by(size, &mut chunks, chunk)?;
+    Ok(chunks)
 }
 
 /// The reply of an item, where it is rendered, after others.
@@ -160,34 +160,34 @@ fn add_reply<F: Tree>(replies: &mut Vec<Reply<F>>, state: BackState<F>) -> Resul
             replies.push(reply)?;
             Ok(())
         }
-        BackState::Due(_) | BackState::Fetched(_) => Ok(()),
+        BackState::Pending(_) | BackState::Fetched(_) => Ok(()),
     }
 }
 
-/// The replies of a lot, after others.
-fn add_replies<F: Tree>(replies: &mut Vec<Reply<F>>, lot: Lot<F>) -> Result<(), AllocError>
+/// The replies of a chunk, after others.
+fn add_replies<F: Tree>(replies: &mut Vec<Reply<F>>, chunk: Chunk<F>) -> Result<(), AllocError>
     ensures { OnOk result
-        (replies.new.items ≡ replies.old.items ++ flat_map (λ x. reply_in x.state) lot.back.items) }
+        (replies.new.items ≡ replies.old.items ++ flat_map (λ x. reply_in x.state) chunk.back.items) }
 {
-    for item in lot.back {
+    for item in chunk.back {
         let Decided { state, .. } = item;
         add_reply(replies, state)?;
     }
     Ok(())
 }
 
-/// The replies of some lots, of which there are so many.
+/// The replies of some chunks, of which there are so many.
 fn replies_of<F: Tree>(
     alloc: Global,
     count: usize,
-    lots: Vec<Lot<F>>,
+    chunks: Vec<Chunk<F>>,
 ) -> Result<Vec<Reply<F>>, AllocError>
     ensures { IfOk result
-        (λ v. v.items ≡ flat_map (λ lot. flat_map (λ x. reply_in x.state) lot.back.items) lots.items) }
+        (λ v. v.items ≡ flat_map (λ chunk. flat_map (λ x. reply_in x.state) chunk.back.items) chunks.items) }
 {
     let mut replies = Vec::with_capacity(alloc, count)?;
-    for lot in lots {
-        add_replies(&mut replies, lot)?;
+    for chunk in chunks {
+        add_replies(&mut replies, chunk)?;
     }
     Ok(replies)
 }
@@ -197,7 +197,7 @@ pub(crate) fn run_back<
     F: Tree,
     K: Pricing,
     Q,
-    C: Carries<Lot = Lot<F>, Value = LotValue, Register = Q>,
+    C: Carries<Chunk = Chunk<F>, Value = ChunkValue, Register = Q>,
     G: Gate,
     T: Wait,
 >(
@@ -206,7 +206,7 @@ pub(crate) fn run_back<
     pending_replies: Vec<PendingReply<F>>,
 ) -> Result<Vec<Reply<F>>, Unrun>
     requires can { AreFloorSteps F.files K.tariff C.step C.content C.count }
-    requires ready { list_all (λ t. is_back F.files (Waits t)) pending_replies.items ≡ true }
+    requires ready { list_all (λ t. is_back F.files (Pending t)) pending_replies.items ≡ true }
     ensures replies { IfOk result
         (λ v. v.items ≡ map (λ t. reply_to F.files (slip_of_pending t)) pending_replies.items) }
 {
@@ -215,12 +215,12 @@ pub(crate) fn run_back<
     let settings = server.settings;
     let plan = settings.back();
     let count = pending_replies.len();
-    let size = floors.lot_size(plan, count);
-    let lots = back_lots(server.alloc, server.snapshot, size, pending_replies)?;
+    let size = floors.chunk_size(plan, count);
+    let chunks = back_chunks(server.alloc, server.snapshot, size, pending_replies)?;
     let before = Before {
         stages: settings.front().stages(),
         items: first,
     };
-    let arrived = floors.run(plan, size, before, lots)?;
+    let arrived = floors.run(plan, size, before, chunks)?;
     Ok(replies_of(server.alloc, count, arrived)?)
 }

@@ -9,18 +9,18 @@ ghost use Rattle.reference.specs.Reference.{handled_after};
 ghost use Rattle.reference.specs.Reference.{slip_of, station_for, tick_in};
 ghost use Rattle.replay.specs.Totals.{Decides, offer_with};
 ghost use Rattle.replay.specs.Fronts.{lookup_of};
-ghost use Rattle.replay.specs.Backs.{given_by, only_head, has_location, is_due, is_back, slip_of_pending};
+ghost use Rattle.replay.specs.Backs.{given_by, only_head, has_location, is_answer, is_back, slip_of_pending};
 ghost use Rattle.std.specs.List.{list_all};
 ghost use Rattle.captures.specs.Reference.{max_start, max_tick};
 ghost use Rattle.arrivals.specs.Reference.{Arrival};
 ghost use Rattle.replay.specs.Serving.{Counted, DeciderAfter, IsOnTime};
 ghost use Rattle.replay.specs.Steps.{DecidesNext};
 ghost use Rattle.replay.specs.Waiting.{AreLookedUp, InTime};
-ghost use Rattle.replay.specs.declared.back.BackState.TheVariants.{Due as Waits};
+ghost use Rattle.replay.specs.declared.back.BackState.TheVariants.{Pending};
 
 use crate::answers::{fault_status, outcome_answer, persistence_of};
 use crate::lookup::{LookedUp, Lookup, answers_head};
-use crate::pending::{Due, PendingReply};
+use crate::pending::{PendingAnswer, PendingReply};
 use crate::server::Server;
 use crate::totals::Totals;
 use crate::{MAX_MESSAGES, Settings};
@@ -61,8 +61,7 @@ impl Decider {
         requires offers { (offers : List Offer) × ControllerAfter offers self.old.controller
             × (length offers < MAX_MESSAGES) }
         requires clock { self.old.controller.clock ≤ tick }
-        requires tier { tier < 4 }
-        requires tick { tick ≤ MAX_TICK }
+        requires range { (tier < 4) × (tick ≤ MAX_TICK) }
         requires pool { HasPool self.old.controller charge.pool }
         ensures { IfOk result
             (λ away. (offers : List Offer) → ControllerAfter offers self.old.controller
@@ -89,26 +88,24 @@ impl Decider {
         origin: Origin,
         what: &Meaning,
         lookup: Lookup,
-    ) -> Result<Due<F>, AllocError>
+    ) -> Result<PendingAnswer<F>, AllocError>
         requires offers { (offers : List Offer) × ControllerAfter offers self.old.controller
             × (length offers < MAX_MESSAGES) }
         requires station { station_of self.old.controller ≡ station_for server.now.served }
         requires clock { self.old.controller.clock ≤ tick_in server.now.served origin }
-        requires tier { origin.tier < 4 }
-        requires tick { origin.tick ≤ MAX_TICK }
+        requires origin { (origin.tier < 4) × (origin.tick ≤ MAX_TICK) }
         requires lookup { lookup ≡ lookup_of F.files server.now.served.tariff what.now }
         ensures given_by { IfOk result
-            (λ due. (offers : List Offer) → ControllerAfter offers self.old.controller
+            (λ answer. (offers : List Offer) → ControllerAfter offers self.old.controller
             → self.old.totals.samples ≡ samples_of (station_of self.old.controller) offers
             → (away : Bool) × Decides offers
             (offer_at F.files server.now.served origin what.now) self.old self.new away
-            × (given_by due ≡ given F.files server.now.served away what.now)) }
-        ensures due { IfOk result (λ due. is_due F.files due ≡ true) }
-        ensures can { IfOk result
-            (λ due. (only_head (answers_head what.now) (given_by due) && has_location (given_by due)) ≡ true) }
+            × (given_by answer ≡ given F.files server.now.served away what.now)) }
+        ensures can { IfOk result (λ answer. (is_answer F.files answer ≡ true)
+            × ((only_head (answers_head what.now) (given_by answer) && has_location (given_by answer)) ≡ true)) }
     {
         match what {
-            Meaning::Bad(fault) => Ok(Due::Ready(Given::Plain {
+            Meaning::Bad(fault) => Ok(PendingAnswer::Ready(Given::Plain {
                 status: fault_status(*fault),
             })),
             Meaning::Request { modified_since, .. } => {
@@ -123,7 +120,7 @@ impl Decider {
                 let _pools = settings.tariff().pools();
                 if self.offer(origin.tier, tick, charge)? {
                     let retry_after = settings.retry_after();
-                    return Ok(Due::Ready(Given::Plain {
+                    return Ok(PendingAnswer::Ready(Given::Plain {
                         status: Status::ServiceUnavailable { retry_after },
                     }));
                 }
@@ -155,7 +152,7 @@ pub(crate) fn decide_next<F: Tree>(
         → Counted F.files server.now.served arrivals decider.old → a.origin ≡ origin → a.message.what ≡ what.now
         → slip_of_pending t ≡ slip_of F.files server.now.served decider.old.start
         (handled_next F.files server.now.served arrivals a)) }
-    ensures ready { IfOk result (λ t. is_back F.files (Waits t) ≡ true) }
+    ensures ready { IfOk result (λ t. is_back F.files (Pending t) ≡ true) }
     ensures start { OnOk result (decider.new.start ≡ decider.old.start) }
     ensures number { OnOk result (decider.new.totals.answered ≡ decider.old.totals.answered + 1) }
 {
@@ -163,15 +160,15 @@ pub(crate) fn decide_next<F: Tree>(
     let date = decider.start + server.tick(origin) / 1_000_000;
     let head = answers_head(what);
     let link = persistence_of(what);
-    let due = decider.decide(server, origin, what, lookup)?;
-    decider.totals.note(&due, what);
+    let answer = decider.decide(server, origin, what, lookup)?;
+    decider.totals.record_reply(&answer, what);
     Ok(PendingReply {
         number,
         conn: usize::from(origin.conn),
         date,
         head,
         link,
-        due,
+        answer,
     })
 }
 
@@ -196,7 +193,7 @@ pub(crate) fn decide_all<F: Tree>(
         → map slip_of_pending v.items
         ≡ map (slip_of F.files server.now.served decider.old.start)
         (handled_after F.files server.now.served arrivals more)) }
-    ensures ready { IfOk result (λ v. list_all (λ t. is_back F.files (Waits t)) v.items ≡ true) }
+    ensures ready { IfOk result (λ v. list_all (λ t. is_back F.files (Pending t)) v.items ≡ true) }
     ensures start { OnOk result (decider.new.start ≡ decider.old.start) }
 {
     let mut pending_replies = Vec::with_capacity(server.alloc, lookups.len())?;

@@ -11,7 +11,7 @@ ghost use Rattle.replay.specs.Backs.{is_back};
 ghost use Rattle.replay.specs.Groups.{records_of};
 ghost use Rattle.replay.specs.Steps.{DecidesComing, ArePending};
 ghost use Rattle.replay.specs.Waiting.{Upcoming};
-ghost use Rattle.replay.specs.declared.back.BackState.TheVariants.{Due as Waits};
+ghost use Rattle.replay.specs.declared.back.BackState.TheVariants.{Pending};
 
 use crate::decider::{Decider, decide_next};
 use crate::lookup::look_up;
@@ -41,7 +41,7 @@ pub(crate) fn decide_in_turn<F: Tree>(
         (DecidesComing F.files server.now.served messages.items decider.old decider.new) }
     ensures slips { IfOk result
         (λ v. ArePending F.files server.now.served messages.items decider.old v.items) }
-    ensures ready { IfOk result (λ v. list_all (λ t. is_back F.files (Waits t)) v.items ≡ true) }
+    ensures ready { IfOk result (λ v. list_all (λ t. is_back F.files (Pending t)) v.items ≡ true) }
     ensures start { OnOk result (decider.new.start ≡ decider.old.start) }
 {
     let mut pending_replies = Vec::with_capacity(server.alloc, messages.len())?;
@@ -61,7 +61,7 @@ pub(crate) fn answer_each<F: Tree, R: Wait, W: Write>(
     pending_replies: Vec<PendingReply<F>>,
     writer: &mut Output<W>,
 ) -> Result<(), ReplayFault>
-    requires ready { list_all (λ t. is_back F.files (Waits t)) pending_replies.items ≡ true }
+    requires ready { list_all (λ t. is_back F.files (Pending t)) pending_replies.items ≡ true }
     requires failures { CanFail writer.old }
     ensures written { OnOk result
         (Appends writer.old.bytes writer.new.bytes (records_of F.files pending_replies.items)) }

@@ -23,7 +23,7 @@ use std::io::{Read, Write};
 ///
 /// As [`crate::plain_replay`]: `Capture` with the capture's first fault, or where its reader failed; `TooMany` at the
 /// first message beyond those that its format allows; `Write` where the writer failed; `Memory`. The rows of the
-/// messages of earlier records stand.
+/// messages of earlier records are written.
 pub fn explain_replay<F: Tree, R: Read, W: Write>(
     alloc: Global,
     snapshot: &Snapshot,
@@ -33,8 +33,8 @@ pub fn explain_replay<F: Tree, R: Read, W: Write>(
 ) -> Result<Outcome, ReplayFault>
     requires snapshot { snapshot.now ≡ F.files }
     requires devices { CanFail reader.old × CanFail writer.old }
-    // After a fault of the capture, the rows of the messages of the whole records before it stand; after too many
-    // messages, those of the messages within the limit; else a prefix of what was due.
+    // After a fault of the capture, the rows of the messages of the whole records before it are written; after too
+    // many messages, those of the messages within the limit; else a prefix of the whole text.
     ensures fault { IfErr result (Leaves (row_texts F.files settings.now.served)
         reader.old.bytes reader.new.bytes writer.old.bytes writer.new.bytes) }
     // A device is blamed only where it failed in this call.

@@ -36,7 +36,7 @@ pub(crate) trait Format {
 
     ghost texts: { List File → Terms → Texts };
 
-    /// Writes what stands before any message.
+    /// Writes what comes before all messages.
     fn begin<W: Write>(settings: &Settings, writer: &mut Output<W>) -> Result<(), ReplayFault>
         requires { CanFail writer.old }
         // Each text is written from the first line to the last.
@@ -74,14 +74,15 @@ pub(crate) trait Format {
             (WritesNext (texts F.files server.now.served) F.files server.now.served
             origin what.now decider.old writer.old.bytes writer.new.bytes) }
         ensures start { OnOk result (decider.new.start ≡ decider.old.start) }
-        ensures number { OnOk result (decider.new.totals.answered ≡ decider.old.totals.answered + 1) }
+        ensures number { OnOk result
+            (decider.new.totals.answered ≡ decider.old.totals.answered + 1) }
         ensures part { OnErr result
             (WritesNextInPart (texts F.files server.now.served) F.files server.now.served
             origin what.now decider.old writer.old.bytes writer.new.bytes) }
         ensures failures { CountsBy writer_failures writer.old.failures writer.new.failures result }
         ensures own { IfErr result IsWriteOrMemory };
 
-    /// Writes what stands after n messages, where no other comes.
+    /// Writes what comes after n messages, where these are all.
     fn finish<W: Write>(
         alloc: Global,
         writer: &mut Output<W>,

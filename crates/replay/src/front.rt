@@ -1,17 +1,18 @@
 //! The front floor: what answers each message of a part, and how long that takes.
 
-ghost use Rattle.std.specs.Prelude.{◌≡◌, ◌+◌, ◌<◌, ◌≤◌, ◌++◌, List, IfOk, OnOk, IfErr, length, map, flat_map};
-ghost use Rattle.stage_graph.specs.Crews.{AreSized};
-ghost use Rattle.replay.specs.Lots.{AreFloorSteps, lot_len, seen_value};
+ghost use Rattle.std.specs.Prelude.{◌≡◌, ◌<◌, ◌++◌, IfOk, OnOk, map, flat_map};
+ghost use Rattle.stage_graph.specs.Helpers.{AreSized};
+ghost use Rattle.replay.specs.Floors.{served_by};
+ghost use Rattle.replay.specs.Chunks.{AreFloorSteps, chunk_len, seen_value, seen_in};
 ghost use Rattle.replay.specs.Fronts.{front_value, IsLookup, unseen, floor_lookup, seen_as};
 ghost use Rattle.paths.specs.Reference.{asked, outcome};
 ghost use Rattle.paths.specs.Resolution.{IsOutcome};
 ghost use Rattle.replay.specs.declared.lookup.Lookup.TheVariants.{Unseen, Found};
 
+use crate::chunks::{Chunk, ChunkValue, Seen};
+use crate::floors::Floors;
 use crate::lookup::{LookedUp, Lookup, answers_head, charge_of};
-use crate::lots::{Lot, LotValue, Seen};
-use crate::parts::Floors;
-use crate::serving::{Pricing, Serving, empty_lot, laid_by, last_laid_by};
+use crate::serving::{Pricing, Serving, empty_chunk, laid_by, last_laid_by};
 use arrivals::Incoming;
 use http_requests::Meaning;
 use paths::{Outcome, Tree, find_plain, inspect, locate};
@@ -24,7 +25,7 @@ use std::sync::Wait;
 const LAST_STEP: usize = 2;
 
 impl<'a, F: Tree, K: Pricing, T: Wait> Serving<'a, F, K, T> {
-    /// Reads what a request asks for. A file that its target names as it stands is found at once, without memory.
+    /// Reads what a request asks for. A file that its target names literally is found at once, without memory.
     fn read(&self, method: &[u8], target: &[u8]) -> Result<Lookup, AllocError>
         ensures ok { IfOk result
             (λ s. seen_as F.files s ≡ Found (outcome F.files (asked method.now target.now))) }
@@ -96,37 +97,37 @@ impl<'a, F: Tree, K: Pricing, T: Wait> Serving<'a, F, K, T> {
     }
 }
 
-/// The messages in lots of at most so many.
-fn front_lots<F: Tree>(
+/// The messages in chunks of at most so many.
+fn front_chunks<F: Tree>(
     alloc: Global,
     size: usize,
     messages: Vec<Incoming>,
-) -> Result<Vec<Lot<F>>, AllocError>
+) -> Result<Vec<Chunk<F>>, AllocError>
     requires size { 0 < size }
-    ensures all { IfOk result (λ lots. map (seen_value F.files) (flat_map (λ lot. lot.front.items) lots.items)
+    ensures all { IfOk result (λ chunks. map (seen_value F.files) (seen_in chunks.items)
         ≡ map unseen messages.items) }
-    ensures sized { IfOk result (λ lots. AreSized lot_len size lots.items) }
+    ensures sized { IfOk result (λ chunks. AreSized chunk_len size chunks.items) }
 {
-    let mut lots = Vec::new(alloc);
-    let mut lot = empty_lot(alloc);
+    let mut chunks = Vec::new(alloc);
+    let mut chunk = empty_chunk(alloc);
     for message in messages {
-        lot.front.push(Seen {
+        chunk.front.push(Seen {
             message,
             lookup: Lookup::Unseen,
             of: PhantomData,
         })?;
-        lot = laid_by(alloc, size, false, &mut lots, lot)?;
+        chunk = laid_by(alloc, size, false, &mut chunks, chunk)?;
     }
-    last_laid_by(size, &mut lots, lot)?;
-    Ok(lots)
+    last_laid_by(size, &mut chunks, chunk)?;
+    Ok(chunks)
 }
 
-/// What is known of the messages of a lot, after others.
-fn add_lookups<F: Tree>(lookups: &mut Vec<LookedUp>, lot: Lot<F>) -> Result<(), AllocError>
+/// What is known of the messages of a chunk, after others.
+fn add_lookups<F: Tree>(lookups: &mut Vec<LookedUp>, chunk: Chunk<F>) -> Result<(), AllocError>
     ensures { OnOk result (lookups.new.items ≡ lookups.old.items
-        ++ map (λ x. record { message = x.message; lookup = x.lookup }) lot.front.items) }
+        ++ map (λ x. record { message = x.message; lookup = x.lookup }) chunk.front.items) }
 {
-    for item in lot.front {
+    for item in chunk.front {
         let Seen {
             message,
             lookup,
@@ -137,18 +138,19 @@ fn add_lookups<F: Tree>(lookups: &mut Vec<LookedUp>, lot: Lot<F>) -> Result<(), 
     Ok(())
 }
 
-/// What is known of the messages of some lots, of which there are so many.
+/// What is known of the messages of some chunks, of which there are so many.
 fn lookups_of<F: Tree>(
     alloc: Global,
     count: usize,
-    lots: Vec<Lot<F>>,
+    chunks: Vec<Chunk<F>>,
 ) -> Result<Vec<LookedUp>, AllocError>
     ensures { IfOk result (λ v. v.items
-        ≡ flat_map (λ lot. map (λ x. record { message = x.message; lookup = x.lookup }) lot.front.items) lots.items) }
+        ≡ flat_map (λ chunk. map (λ x. record { message = x.message; lookup = x.lookup }) chunk.front.items)
+        chunks.items) }
 {
     let mut lookups = Vec::with_capacity(alloc, count)?;
-    for lot in lots {
-        add_lookups(&mut lookups, lot)?;
+    for chunk in chunks {
+        add_lookups(&mut lookups, chunk)?;
     }
     Ok(lookups)
 }
@@ -158,7 +160,7 @@ pub(crate) fn run_front<
     F: Tree,
     K: Pricing,
     Q,
-    C: Carries<Lot = Lot<F>, Value = LotValue, Register = Q>,
+    C: Carries<Chunk = Chunk<F>, Value = ChunkValue, Register = Q>,
     G: Gate,
     T: Wait,
 >(
@@ -168,7 +170,7 @@ pub(crate) fn run_front<
 ) -> Result<Vec<LookedUp>, Unrun>
     requires can { AreFloorSteps F.files K.tariff C.step C.content C.count }
     ensures seen { IfOk result
-        (λ v. v.items ≡ map (front_value F.files floors.now.serving.now.server.served.tariff) messages.items) }
+        (λ v. v.items ≡ map (front_value F.files (served_by floors.now).tariff) messages.items) }
 {
     let serving = floors.serving;
     let server = &serving.server;
@@ -176,12 +178,12 @@ pub(crate) fn run_front<
     let settings = server.settings;
     let plan = settings.front();
     let count = messages.len();
-    let size = floors.lot_size(plan, count);
-    let lots = front_lots(alloc, size, messages)?;
+    let size = floors.chunk_size(plan, count);
+    let chunks = front_chunks(alloc, size, messages)?;
     let before = Before {
         stages: 0,
         items: first,
     };
-    let arrived = floors.run(plan, size, before, lots)?;
+    let arrived = floors.run(plan, size, before, chunks)?;
     Ok(lookups_of(alloc, count, arrived)?)
 }

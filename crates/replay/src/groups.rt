@@ -1,9 +1,9 @@
 //! Pending replies in groups whose pages fit into memory.
 
 ghost use Rattle.std.specs.Prelude.{◌≡◌, ◌≤◌, ◌++◌, ◌∷◌, [], sum_by, IfOk, IsTrue};
-ghost use Rattle.replay.specs.Groups.{all_of, page_len, room_for_pages, AreGroups, AreGroupsFor, Lays};
+ghost use Rattle.replay.specs.Groups.{all_of, page_len, page_capacity, AreGroups, AreGroupsFor, Lays};
 
-use crate::pending::{Due, PendingReply};
+use crate::pending::{PendingAnswer, PendingReply};
 use arrivals::Series;
 use page_cache::PageCache;
 use paths::{Snapshot, Tree};
@@ -19,10 +19,10 @@ const FIELDS: usize = 256;
 /// How many bytes are copied in the time that a reply takes besides its page.
 const REPLY: usize = 512;
 
-/// How many bytes of pages the replies of a group may hold. Where the cache has room for the pages of all files, each
-/// stands in memory once, however many replies share it.
-pub(crate) fn room_for_pages(snapshot: &Snapshot, cache: usize) -> Option<usize>
-    ensures { result ≡ room_for_pages snapshot.now cache }
+/// How many bytes of pages the replies of a group may hold. Where the cache has capacity for the pages of all files,
+/// each is in memory once, however many replies share it.
+pub(crate) fn page_capacity(snapshot: &Snapshot, cache: usize) -> Option<usize>
+    ensures { result ≡ page_capacity snapshot.now cache }
 {
     let mut held: usize = 0;
     for file in 0..snapshot.len() {
@@ -39,8 +39,8 @@ pub(crate) fn room_for_pages(snapshot: &Snapshot, cache: usize) -> Option<usize>
 pub(crate) fn page_len<F: Tree>(snapshot: &Snapshot, pending: &PendingReply<F>) -> usize
     ensures { result ≡ page_len snapshot.now pending.now }
 {
-    match &pending.due {
-        Due::Page { file, .. } if *file < snapshot.len() => snapshot.bytes(*file).len(),
+    match &pending.answer {
+        PendingAnswer::Page { file, .. } if *file < snapshot.len() => snapshot.bytes(*file).len(),
         _ => 0,
     }
 }
@@ -65,14 +65,18 @@ fn laid_by<F: Tree>(
     Ok((Vec::new(alloc), 0))
 }
 
-/// Whether the pages of all pending replies have room, each counted as often as it is due.
-fn all_fit<F: Tree>(snapshot: &Snapshot, room: usize, pending_replies: &[PendingReply<F>]) -> bool
-    ensures { IsTrue result → sum_by (page_len snapshot.now) pending_replies.now ≤ room }
+/// Whether the pages of all pending replies fit, each counted as often as a reply needs it.
+fn all_fit<F: Tree>(
+    snapshot: &Snapshot,
+    capacity: usize,
+    pending_replies: &[PendingReply<F>],
+) -> bool
+    ensures { IsTrue result → sum_by (page_len snapshot.now) pending_replies.now ≤ capacity }
 {
     let mut held: usize = 0;
     for pending in pending_replies {
         let own = page_len(snapshot, pending);
-        if own > room - held {
+        if own > capacity - held {
             return false;
         }
         held += own;
@@ -80,8 +84,8 @@ fn all_fit<F: Tree>(snapshot: &Snapshot, room: usize, pending_replies: &[Pending
     true
 }
 
-/// How much work a group is at most, in bytes that are copied: what its replies cost besides their pages, and all pages
-/// that are due.
+/// How much work a group is at most, in bytes that are copied: what its replies cost besides their pages, and all their
+/// pages.
 fn most_work_of<F: Tree>(snapshot: &Snapshot, pending_replies: &[PendingReply<F>]) -> usize {
     let mut work: usize = 0;
     for pending in pending_replies {
@@ -92,8 +96,8 @@ fn most_work_of<F: Tree>(snapshot: &Snapshot, pending_replies: &[PendingReply<F>
 }
 
 /// How much work a group is, in bytes that are copied: what its replies cost besides their pages, and the pages that
-/// aren't in the cache when the group is begun, each counted as often as it is due. Where it is less than `much` with
-/// the pages that are in the cache, these count too.
+/// aren't in the cache when the group is begun, each counted as often as a reply needs it. Where it is less than `much`
+/// with the pages that are in the cache, these count too.
 pub(crate) fn work_of<F: Tree, R: Wait>(
     rt: &R,
     snapshot: &Snapshot,
@@ -109,7 +113,7 @@ pub(crate) fn work_of<F: Tree, R: Wait>(
     let mut work: usize = 0;
     for pending in pending_replies {
         work = work.saturating_add(REPLY);
-        if let Due::Page { file, .. } = &pending.due {
+        if let PendingAnswer::Page { file, .. } = &pending.answer {
             if !pages.holds(*file) {
                 work = work.saturating_add(page_len(snapshot, pending));
             }
@@ -130,43 +134,43 @@ fn one_group<F: Tree>(
     Ok(whole)
 }
 
-/// The pending replies in groups, one after another: the pages of a group take no more than `room` bytes, or are one
-/// alone, and it ends only where the next one has no room. Without a `room` there is one group.
+/// The pending replies in groups, one after another: the pages of a group take no more than `capacity` bytes, or are
+/// one alone, and it ends only where the next one doesn't fit. Without a `capacity` there is one group.
 pub(crate) fn groups_of<F: Tree>(
     alloc: Global,
     snapshot: &Snapshot,
-    room: Option<usize>,
+    capacity: Option<usize>,
     pending_replies: Vec<PendingReply<F>>,
 ) -> Result<Vec<Series<PendingReply<F>>>, AllocError>
     ensures all { IfOk result (λ groups. all_of groups.items ≡ pending_replies.items) }
     ensures groups { IfOk result
-        (λ groups. AreGroupsFor (page_len snapshot.now) room groups.items) }
+        (λ groups. AreGroupsFor (page_len snapshot.now) capacity groups.items) }
 {
-    match room {
-        Some(room) if !all_fit(snapshot, room, &pending_replies) => {
-            divided(alloc, snapshot, room, pending_replies)
+    match capacity {
+        Some(capacity) if !all_fit(snapshot, capacity, &pending_replies) => {
+            divided(alloc, snapshot, capacity, pending_replies)
         }
         _ => one_group(alloc, pending_replies),
     }
 }
 
-/// The pending replies in groups whose pages take no more than `room` bytes, or are one alone.
+/// The pending replies in groups whose pages take no more than `capacity` bytes, or are one alone.
 fn divided<F: Tree>(
     alloc: Global,
     snapshot: &Snapshot,
-    room: usize,
+    capacity: usize,
     pending_replies: Vec<PendingReply<F>>,
 ) -> Result<Vec<Series<PendingReply<F>>>, AllocError>
     ensures all { IfOk result (λ groups. all_of groups.items ≡ pending_replies.items) }
     ensures groups { IfOk result
-        (λ groups. AreGroups (page_len snapshot.now) room groups.items) }
+        (λ groups. AreGroups (page_len snapshot.now) capacity groups.items) }
 {
     let mut groups = Vec::new(alloc);
     let mut group = Vec::new(alloc);
     let mut held: usize = 0;
     for pending in pending_replies {
         let own = page_len(snapshot, &pending);
-        let is_full = own > room.saturating_sub(held);
+        let is_full = own > capacity.saturating_sub(held);
         let (mut left, before) = laid_by(alloc, &mut groups, group, held, is_full)?;
         left.push(pending)?;
         group = left;

@@ -4,15 +4,16 @@
 mod advance;
 mod answers;
 mod back;
+mod chunks;
 mod decider;
 mod direct;
 mod explain;
+mod floors;
 mod format;
 mod front;
 mod groups;
 mod load;
 mod lookup;
-mod lots;
 mod parts;
 mod pending;
 mod plain;

@@ -1,14 +1,14 @@
-//! How much work floors would have, told by the pieces that came last: whether they pay.
+//! How much work floors would have, by the last pieces: whether they pay.
 
 use http_requests::{Meaning, Message};
 use std::cell::Cell;
 
 /// How many bytes of targets a part has where a floor pays: to look them up takes longer than to take messages through
-/// lots and queues.
+/// chunks and queues.
 pub(crate) const LOOKING_PAYS: usize = 1_048_576;
 
 /// How many bytes of work a group is where a floor pays. A thread by itself builds a page where the last one was, and
-/// holds one at a time; a floor asks the system for room for the pages of a group.
+/// holds one at a time; a floor asks the system for memory for the pages of a group.
 pub(crate) const ANSWERING_PAYS: usize = 67_108_864;
 
 /// Into how many shares the work is divided with which a floor pays.
@@ -54,7 +54,7 @@ impl Load {
     }
 
     /// A floor has so much work, of so much as pays.
-    pub fn note(&self, work: usize, pays: usize) {
+    pub fn record_work(&self, work: usize, pays: usize) {
         let share = work / (pays / SHARES).max(1);
         self.share.set(self.share.get().max(share));
     }
@@ -71,7 +71,7 @@ impl Load {
             self.pieces.set(pieces);
             self.targets.set(targets);
         } else {
-            self.note(targets, LOOKING_PAYS);
+            self.record_work(targets, LOOKING_PAYS);
             self.judge(batch, pieces);
         }
     }

@@ -16,7 +16,7 @@ use std::alloc::{AllocError, Global};
 /// How far a message was looked up before it is decided on.
 #[derive(Drop)]
 pub enum Lookup {
-    /// It stands as it came.
+    /// It is as it came.
     Unseen,
     /// Its target was read.
     Asked(Asked),

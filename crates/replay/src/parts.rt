@@ -1,16 +1,12 @@
 //! A batch: both floors, the decisions between them, and the writing.
 
-ghost use Rattle.std.specs.Prelude.{◌≡◌, ◌<◌, ◌≤◌, ◌-◌, ◌+◌, ℕ, List, map, flat_map, length, IfOk, IfErr, OnOk};
-ghost use Rattle.std.specs.Prelude.{OnErr, true};
+ghost use Rattle.std.specs.Prelude.{◌≡◌, ◌≤◌, ◌+◌, List, flat_map, length, IfOk, IfErr, OnOk, OnErr, true};
 ghost use Rattle.std.specs.List.{list_all};
-ghost use Rattle.stage_graph.specs.After.{last_cut};
-ghost use Rattle.stage_graph.specs.Crews.{AreSized};
-ghost use Rattle.stage_graph.specs.Layouts.{IsLotSize};
-ghost use Rattle.stage_graph.specs.Steps.{value_of};
-ghost use Rattle.replay.specs.Lots.{AreFloorSteps, lot_len, lot_step, lot_value};
+ghost use Rattle.replay.specs.Floors.{served_by};
+ghost use Rattle.replay.specs.Chunks.{AreFloorSteps};
 ghost use Rattle.replay.specs.Backs.{is_back};
-ghost use Rattle.replay.specs.declared.back.BackState.TheVariants.{Due as Waits};
-ghost use Rattle.replay.specs.Groups.{records_of, room_for_pages};
+ghost use Rattle.replay.specs.declared.back.BackState.TheVariants.{Pending};
+ghost use Rattle.replay.specs.Groups.{records_of};
 ghost use Rattle.captures.specs.Reference.{max_start};
 ghost use Rattle.responses.specs.Reference.{record_text};
 ghost use Rattle.arrivals.specs.Reference.{Arrival};
@@ -18,106 +14,29 @@ ghost use Rattle.arrivals.specs.Batches.{joined};
 ghost use Rattle.reference.specs.Outcomes.{IsOwn, IfTooMany, IfCutShort};
 ghost use Rattle.captures.specs.Passes.{writer_failures, IsWriteOrMemory};
 ghost use Rattle.replay.specs.Steps.{DecidesComing, ArePending, WritesComing, WritesComingInPart};
-ghost use Rattle.replay.specs.Steps.{WritesFirst, WritesFirstInPart};
+ghost use Rattle.replay.specs.Steps.{FillsWithComing, AnswersComingInPart};
 ghost use Rattle.replay.specs.Waiting.{Upcoming};
 ghost use Rattle.std.specs.Io.KnownBytes.{Appends};
 ghost use Rattle.devices.specs.Devices.{CanFail, CountsBy, AppendsPrefix};
 
 use crate::back::run_back;
+use crate::chunks::{Chunk, ChunkValue};
 use crate::decider::{Decider, decide_all};
 use crate::direct::{answer_each, decide_in_turn};
+use crate::floors::Floors;
 use crate::front::run_front;
 use crate::groups::{groups_of, work_of};
-use crate::load::{ANSWERING_PAYS, LOOKING_PAYS, Load, target_len};
-use crate::lots::{Lot, LotValue};
+use crate::load::{ANSWERING_PAYS, LOOKING_PAYS, target_len};
 use crate::pending::PendingReply;
-use crate::server::Server;
-use crate::serving::{Pricing, Serving};
+use crate::serving::Pricing;
 use crate::{MAX_MESSAGES, ReplayFault};
 use arrivals::{Incoming, Series};
 use devices::Output;
 use paths::Tree;
 use responses::{Reply, write_reply};
-use stage_graph::{Before, Carries, Gate, Plan, Unrun};
+use stage_graph::{Carries, Gate, Unrun};
 use std::io::Write;
-use std::sync::{Mutex, Wait};
-
-/// The most messages of a lot: so many take long enough that it pays to hand them on.
-const MOST_IN_LOT: usize = 256;
-
-/// How many lots a floor has for each thread, where it has messages for so many: so none waits long for another.
-const LOTS_EACH: usize = 4;
-
-/// The floors of the staged engine, and what they work with.
-#[derive(Drop)]
-pub(crate) struct Floors<'v, 'a, F: Tree, K: Pricing, C, Q, G, T: Wait> {
-    pub serving: &'a Serving<'a, F, K, T>,
-    pub crew: &'v C,
-    pub register: &'v Mutex<Q>,
-    pub gate: &'a G,
-    /// How many threads work at a time.
-    pub threads: usize,
-    /// How many bytes of pages the replies of a group may hold: any number without it.
-    pub room: Option<usize>,
-    /// How many messages are answered at most.
-    pub most: usize,
-    /// How much work they have, or would have.
-    pub load: Load,
-    pub ghost held: { room ≡ room_for_pages F.files serving.now.server.floors.cache },
-}
-
-impl<
-    'v,
-    'a,
-    F: Tree,
-    K: Pricing,
-    Q,
-    C: Carries<Lot = Lot<F>, Value = LotValue, Register = Q>,
-    G: Gate,
-    T: Wait,
-> Floors<'v, 'a, F, K, C, Q, G, T> {
-    /// Whether batches are read and taken through floors: where a gate sees the messages, and where a floor pays, if a
-    /// second thread is there.
-    pub fn pay(&self) -> bool {
-        !self.gate.is_absent() || (self.threads > 1 && self.load.pays())
-    }
-
-    /// Whether the calling thread takes one message of a batch after another through all stages, without a floor: where
-    /// no gate sees the messages, and the work is less than what pays, or no second thread is there. The work is noted.
-    fn is_alone(&self, work: usize, pays: usize) -> bool {
-        self.load.note(work, pays);
-        self.gate.is_absent() && (work < pays || self.threads <= 1)
-    }
-
-    /// How many of so many messages are in a lot at most, on a floor of this plan.
-    pub fn lot_size(&self, plan: &Plan, count: usize) -> usize
-        ensures { IsLotSize plan.now result }
-    {
-        let lots = self.threads.saturating_mul(LOTS_EACH).max(1);
-        plan.least_capacity((count / lots).min(MOST_IN_LOT) + 1)
-    }
-
-    /// Takes lots through a floor of this plan.
-    pub fn run(
-        &self,
-        plan: &Plan,
-        size: usize,
-        before: Before,
-        lots: Vec<Lot<F>>,
-    ) -> Result<Vec<Lot<F>>, Unrun>
-        requires can { AreFloorSteps F.files K.tariff C.step C.content C.count }
-        requires size { IsLotSize plan.now size }
-        requires lots { AreSized lot_len size lots.items }
-        ensures { IfOk result (λ v. map (lot_value F.files) v.items
-            ≡ map (λ lot. value_of (lot_step F.files self.now.serving.now.server.served.tariff) (last_cut plan.now)
-            (lot_value F.files lot)) lots.items) }
-    {
-        let serving = self.serving;
-        let mut register = self.register.lock(serving.rt);
-        let arrived = self.crew.carry(&mut *register, plan, size, before, lots)?;
-        Ok(arrived)
-    }
-}
+use std::sync::Wait;
 
 /// How many bytes the targets of messages have.
 fn targets_of(messages: &[Incoming]) -> usize {
@@ -160,7 +79,7 @@ fn answer_group<
     F: Tree,
     K: Pricing,
     Q,
-    C: Carries<Lot = Lot<F>, Value = LotValue, Register = Q>,
+    C: Carries<Chunk = Chunk<F>, Value = ChunkValue, Register = Q>,
     G: Gate,
     T: Wait,
     W: Write,
@@ -170,7 +89,7 @@ fn answer_group<
     writer: &mut Output<W>,
 ) -> Result<(), ReplayFault>
     requires can { AreFloorSteps F.files K.tariff C.step C.content C.count }
-    requires ready { list_all (λ t. is_back F.files (Waits t)) group.items ≡ true }
+    requires ready { list_all (λ t. is_back F.files (Pending t)) group.items ≡ true }
     requires failures { CanFail writer.old }
     ensures written { OnOk result
         (Appends writer.old.bytes writer.new.bytes (records_of F.files group.items)) }
@@ -201,7 +120,7 @@ fn answer_all_pending<
     F: Tree,
     K: Pricing,
     Q,
-    C: Carries<Lot = Lot<F>, Value = LotValue, Register = Q>,
+    C: Carries<Chunk = Chunk<F>, Value = ChunkValue, Register = Q>,
     G: Gate,
     T: Wait,
     W: Write,
@@ -211,7 +130,7 @@ fn answer_all_pending<
     writer: &mut Output<W>,
 ) -> Result<(), ReplayFault>
     requires can { AreFloorSteps F.files K.tariff C.step C.content C.count }
-    requires ready { list_all (λ t. is_back F.files (Waits t)) pending_replies.items ≡ true }
+    requires ready { list_all (λ t. is_back F.files (Pending t)) pending_replies.items ≡ true }
     requires failures { CanFail writer.old }
     ensures written { OnOk result
         (Appends writer.old.bytes writer.new.bytes (records_of F.files pending_replies.items)) }
@@ -222,7 +141,12 @@ fn answer_all_pending<
 {
     let serving = floors.serving;
     let server = &serving.server;
-    for group in groups_of(server.alloc, server.snapshot, floors.room, pending_replies)? {
+    for group in groups_of(
+        server.alloc,
+        server.snapshot,
+        floors.capacity,
+        pending_replies,
+    )? {
         answer_group(floors, group.into_vec(), writer)?;
     }
     Ok(())
@@ -234,7 +158,7 @@ fn decide_messages<
     F: Tree,
     K: Pricing,
     Q,
-    C: Carries<Lot = Lot<F>, Value = LotValue, Register = Q>,
+    C: Carries<Chunk = Chunk<F>, Value = ChunkValue, Register = Q>,
     G: Gate,
     T: Wait,
 >(
@@ -245,13 +169,13 @@ fn decide_messages<
     requires can { AreFloorSteps F.files K.tariff C.step C.content C.count }
     requires start { decider.old.start ≤ max_start }
     requires next { (arrivals : List Arrival) × (more : List Arrival)
-        × Upcoming F.files floors.now.serving.now.server.served arrivals more messages.items decider.old
+        × Upcoming F.files (served_by floors.now) arrivals more messages.items decider.old
         × (length arrivals + length more ≤ MAX_MESSAGES) }
     ensures stands { OnOk result
-        (DecidesComing F.files floors.now.serving.now.server.served messages.items decider.old decider.new) }
+        (DecidesComing F.files (served_by floors.now) messages.items decider.old decider.new) }
     ensures slips { IfOk result
-        (λ v. ArePending F.files floors.now.serving.now.server.served messages.items decider.old v.items) }
-    ensures ready { IfOk result (λ v. list_all (λ t. is_back F.files (Waits t)) v.items ≡ true) }
+        (λ v. ArePending F.files (served_by floors.now) messages.items decider.old v.items) }
+    ensures ready { IfOk result (λ v. list_all (λ t. is_back F.files (Pending t)) v.items ≡ true) }
     ensures start { OnOk result (decider.new.start ≡ decider.old.start) }
     ensures memory { IfErr result (λ f. f ≡ ReplayFault.Memory) }
 {
@@ -272,7 +196,7 @@ fn serve_few<
     F: Tree,
     K: Pricing,
     Q,
-    C: Carries<Lot = Lot<F>, Value = LotValue, Register = Q>,
+    C: Carries<Chunk = Chunk<F>, Value = ChunkValue, Register = Q>,
     G: Gate,
     T: Wait,
     W: Write,
@@ -285,16 +209,16 @@ fn serve_few<
     requires can { AreFloorSteps F.files K.tariff C.step C.content C.count }
     requires start { decider.old.start ≤ max_start }
     requires next { (arrivals : List Arrival) × (more : List Arrival)
-        × Upcoming F.files floors.now.serving.now.server.served arrivals more messages.items decider.old
+        × Upcoming F.files (served_by floors.now) arrivals more messages.items decider.old
         × (length arrivals + length more ≤ MAX_MESSAGES) }
     requires failures { CanFail writer.old }
     ensures stands { OnOk result
-        (DecidesComing F.files floors.now.serving.now.server.served messages.items decider.old decider.new) }
+        (DecidesComing F.files (served_by floors.now) messages.items decider.old decider.new) }
     ensures written { OnOk result
-        (WritesComing F.files floors.now.serving.now.server.served messages.items decider.old
+        (WritesComing F.files (served_by floors.now) messages.items decider.old
         writer.old.bytes writer.new.bytes) }
     ensures part { OnErr result
-        (WritesComingInPart F.files floors.now.serving.now.server.served messages.items decider.old
+        (WritesComingInPart F.files (served_by floors.now) messages.items decider.old
         writer.old.bytes writer.new.bytes) }
     ensures start { OnOk result (decider.new.start ≡ decider.old.start) }
     ensures failures { CountsBy writer_failures writer.old.failures writer.new.failures result }
@@ -312,7 +236,7 @@ fn serve_part<
     F: Tree,
     K: Pricing,
     Q,
-    C: Carries<Lot = Lot<F>, Value = LotValue, Register = Q>,
+    C: Carries<Chunk = Chunk<F>, Value = ChunkValue, Register = Q>,
     G: Gate,
     T: Wait,
     W: Write,
@@ -325,35 +249,32 @@ fn serve_part<
     requires can { AreFloorSteps F.files K.tariff C.step C.content C.count }
     requires start { decider.old.start ≤ max_start }
     requires next { (arrivals : List Arrival) × (more : List Arrival)
-        × Upcoming F.files floors.now.serving.now.server.served arrivals more messages.items decider.old }
+        × Upcoming F.files (served_by floors.now) arrivals more messages.items decider.old }
     requires limit { (decider.old.totals.answered ≤ floors.now.most)
         × (floors.now.most ≤ MAX_MESSAGES) }
     requires failures { CanFail writer.old }
     ensures stands { OnOk result
-        (DecidesComing F.files floors.now.serving.now.server.served messages.items decider.old decider.new) }
+        (DecidesComing F.files (served_by floors.now) messages.items decider.old decider.new) }
     ensures written { OnOk result
-        (WritesComing F.files floors.now.serving.now.server.served messages.items decider.old
+        (WritesComing F.files (served_by floors.now) messages.items decider.old
         writer.old.bytes writer.new.bytes) }
-    ensures many { IfErr result
-        (λ f. IfTooMany f (λ n. (n ≡ floors.now.most) × (i : ℕ) × (i < length messages.items)
-        × (decider.old.totals.answered + i ≡ floors.now.most)
-        × WritesFirst i F.files floors.now.serving.now.server.served messages.items decider.old
+    ensures many { IfErr result (λ f. IfTooMany f
+        (FillsWithComing floors.now.most F.files (served_by floors.now) messages.items decider.old
         writer.old.bytes writer.new.bytes)) }
-    ensures part { IfErr result (λ f. IfCutShort f ((i : ℕ) × (i ≤ length messages.items)
-        × (decider.old.totals.answered + i ≤ floors.now.most)
-        × WritesFirstInPart i F.files floors.now.serving.now.server.served messages.items decider.old
+    ensures part { IfErr result (λ f. IfCutShort f
+        (AnswersComingInPart floors.now.most F.files (served_by floors.now) messages.items decider.old
         writer.old.bytes writer.new.bytes)) }
     ensures start { OnOk result (decider.new.start ≡ decider.old.start) }
     ensures within { OnOk result (decider.new.totals.answered ≤ floors.now.most) }
     ensures failures { CountsBy writer_failures writer.old.failures writer.new.failures result }
     ensures own { IfErr result IsOwn }
 {
-    let room = floors.most - decider.totals.answered;
-    if messages.len() <= room {
+    let left = floors.most - decider.totals.answered;
+    if messages.len() <= left {
         return serve_few(floors, messages, decider, writer);
     }
     let mut within = messages;
-    within.truncate(room);
+    within.truncate(left);
     serve_few(floors, within, decider, writer)?;
     Err(ReplayFault::TooMany(floors.most))
 }
@@ -363,7 +284,7 @@ pub(crate) fn serve_parts<
     F: Tree,
     K: Pricing,
     Q,
-    C: Carries<Lot = Lot<F>, Value = LotValue, Register = Q>,
+    C: Carries<Chunk = Chunk<F>, Value = ChunkValue, Register = Q>,
     G: Gate,
     T: Wait,
     W: Write,
@@ -376,22 +297,20 @@ pub(crate) fn serve_parts<
     requires can { AreFloorSteps F.files K.tariff C.step C.content C.count }
     requires start { decider.old.start ≤ max_start }
     requires next { (arrivals : List Arrival) × (more : List Arrival)
-        × Upcoming F.files floors.now.serving.now.server.served arrivals more (joined parts.items) decider.old }
+        × Upcoming F.files (served_by floors.now) arrivals more (joined parts.items) decider.old }
     requires limit { (decider.old.totals.answered ≤ floors.now.most)
         × (floors.now.most ≤ MAX_MESSAGES) }
     requires failures { CanFail writer.old }
     ensures stands { OnOk result
-        (DecidesComing F.files floors.now.serving.now.server.served (joined parts.items) decider.old decider.new) }
+        (DecidesComing F.files (served_by floors.now) (joined parts.items) decider.old decider.new) }
     ensures written { OnOk result
-        (WritesComing F.files floors.now.serving.now.server.served (joined parts.items) decider.old
+        (WritesComing F.files (served_by floors.now) (joined parts.items) decider.old
         writer.old.bytes writer.new.bytes) }
-    ensures many { IfErr result (λ f. IfTooMany f (λ n. (n ≡ floors.now.most) × (i : ℕ)
-        × (i < length (joined parts.items)) × (decider.old.totals.answered + i ≡ floors.now.most)
-        × WritesFirst i F.files floors.now.serving.now.server.served (joined parts.items) decider.old
+    ensures many { IfErr result (λ f. IfTooMany f
+        (FillsWithComing floors.now.most F.files (served_by floors.now) (joined parts.items) decider.old
         writer.old.bytes writer.new.bytes)) }
-    ensures part { IfErr result (λ f. IfCutShort f ((i : ℕ) × (i ≤ length (joined parts.items))
-        × (decider.old.totals.answered + i ≤ floors.now.most)
-        × WritesFirstInPart i F.files floors.now.serving.now.server.served (joined parts.items) decider.old
+    ensures part { IfErr result (λ f. IfCutShort f
+        (AnswersComingInPart floors.now.most F.files (served_by floors.now) (joined parts.items) decider.old
         writer.old.bytes writer.new.bytes)) }
     ensures start { OnOk result (decider.new.start ≡ decider.old.start) }
     ensures within { OnOk result (decider.new.totals.answered ≤ floors.now.most) }

@@ -1,4 +1,4 @@
-//! A message that was decided on, with what is due for it, and its answer by one thread.
+//! A message that was decided on, with its pending answer, and its answer by one thread.
 
 ghost use Rattle.std.specs.Prelude.{◌≡◌, slice_get, ◌<◌, ◌≤◌, ◌-◌, ◌+◌, ◌^◌, [], true, length, OnOk, IfErr, OnErr};
 ghost use Rattle.responses.specs.Reference.{status_of, statuses, record_text};
@@ -7,7 +7,7 @@ ghost use Rattle.std.specs.Io.KnownBytes.{Appends};
 ghost use Rattle.devices.specs.Devices.{CanFail, CountsBy, AppendsPrefix};
 ghost use Rattle.paths.specs.Snapshots.{max_time};
 ghost use Rattle.captures.specs.Passes.{writer_failures, IsWriteOrMemory};
-ghost use Rattle.replay.specs.declared.back.BackState.TheVariants.{Due as Waits};
+ghost use Rattle.replay.specs.declared.back.BackState.TheVariants.{Pending};
 
 use crate::ReplayFault;
 use crate::answers::known_file;
@@ -21,7 +21,7 @@ use std::io::Write;
 
 /// How a message is to be answered: with a page that is still to be fetched, or with all else.
 #[derive(Drop)]
-pub enum Due<F: Tree> {
+pub enum PendingAnswer<F: Tree> {
     /// The page of a file.
     Page {
         file: usize,
@@ -31,14 +31,14 @@ pub enum Due<F: Tree> {
     Ready(Given<F>),
 }
 
-impl<F: Tree> Due<F> {
+impl<F: Tree> PendingAnswer<F> {
     /// The place of the code of its status in `STATUS_CODES`.
     pub(crate) fn status_place(&self) -> usize
         ensures { slice_get statuses result ≡ Some (status_of (given_by self.now)) }
     {
         match self {
-            Due::Page { .. } => OK_PLACE,
-            Due::Ready(given) => given.status_place(),
+            PendingAnswer::Page { .. } => OK_PLACE,
+            PendingAnswer::Ready(given) => given.status_place(),
         }
     }
 }
@@ -52,7 +52,7 @@ pub struct PendingReply<F: Tree> {
     pub date: u64,
     pub head: bool,
     pub link: Persistence,
-    pub due: Due<F>,
+    pub answer: PendingAnswer<F>,
 }
 
 /// Renders and writes the reply of a slip.
@@ -83,7 +83,7 @@ pub(crate) fn answer_pending<F: Tree, S: Source<F>, W: Write>(
     pending: PendingReply<F>,
     writer: &mut Output<W>,
 ) -> Result<(), ReplayFault>
-    requires ready { is_back F.files (Waits pending) ≡ true }
+    requires ready { is_back F.files (Pending pending) ≡ true }
     requires failures { CanFail writer.old }
     ensures written { OnOk result (Appends writer.old.bytes writer.new.bytes
         (record_text (reply_to F.files (slip_of_pending pending)))) }
@@ -98,10 +98,10 @@ pub(crate) fn answer_pending<F: Tree, S: Source<F>, W: Write>(
         date,
         head,
         link,
-        due,
+        answer,
     } = pending;
-    match due {
-        Due::Page { file, mtime } => {
+    match answer {
+        PendingAnswer::Page { file, mtime } => {
             let slip = Slip {
                 number,
                 conn,
@@ -112,7 +112,7 @@ pub(crate) fn answer_pending<F: Tree, S: Source<F>, W: Write>(
             };
             source.give::<W>(server, heads, &slip, file, writer)
         }
-        Due::Ready(what) => {
+        PendingAnswer::Ready(what) => {
             let slip = Slip {
                 number,
                 conn,

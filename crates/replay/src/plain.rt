@@ -17,7 +17,7 @@ ghost use Rattle.captures.specs.Passes.{writer_failures};
 ghost use Rattle.replay.specs.Serving.{IsLater, Serves, DeciderAfter, WritesWhole};
 ghost use Rattle.replay.specs.Steps.{AnswersRecord, FillsWithRecord, AnswersRecordInPart};
 ghost use Rattle.arrivals.specs.Connections.{AreTiers};
-ghost use Rattle.admission.specs.Reference.{Offer};
+ghost use Rattle.admission.specs.Reference.{Offer, pools_of};
 ghost use Rattle.admission.specs.After.{ControllerAfter};
 ghost use Rattle.admission.specs.Standing.{station_of};
 
@@ -29,7 +29,7 @@ use crate::server::Server;
 use crate::source::{FromSnapshot, Source};
 use crate::totals::Totals;
 use crate::{MAX_MESSAGES, ReplayFault, Settings, Summary, Tally};
-use admission::{Control, Controller};
+use admission::{Control, Controller, PoolFigures};
 use arrivals::{Connections, Origin, Series, Tiers};
 use captures::{CaptureReader, Record, Version};
 use devices::{Input, Output};
@@ -63,25 +63,30 @@ fn tally(counted: (u64, u64), controls: Vec<Control>) -> Tally
     }
 }
 
-/// What became of the requests of each tier. Its controls are taken, and not copied.
-fn tallies_of(controller: Controller) -> [Tally; 4]
-    ensures { (offers : List Offer) → ControllerAfter offers controller
-        → result ≡ tallies_of (station_of controller) offers }
+/// What became of the requests of each tier, and what the pools have done. The controls and the figures are taken, and
+/// not copied.
+fn figures_of(controller: Controller) -> ([Tally; 4], Series<PoolFigures>)
+    ensures tiers { (offers : List Offer) → ControllerAfter offers controller
+        → result.0 ≡ tallies_of (station_of controller) offers }
+    ensures pools { (offers : List Offer) → ControllerAfter offers controller
+        → result.1 ≡ pools_of (station_of controller) offers }
 {
     let of_zero = counted(&controller, 0);
     let of_one = counted(&controller, 1);
     let of_two = counted(&controller, 2);
     let of_three = counted(&controller, 3);
-    let [zero, one, two, three] = controller.into_controls();
-    [
+    let (controls, pools) = controller.into_parts();
+    let [zero, one, two, three] = controls;
+    let tiers = [
         tally(of_zero, zero),
         tally(of_one, one),
         tally(of_two, two),
         tally(of_three, three),
-    ]
+    ];
+    (tiers, Series::from_vec(pools))
 }
 
-/// What the replay has come to.
+/// The outcome of the replay so far.
 pub(crate) fn outcome_of(version: Version, decider: Decider) -> Outcome
     ensures version { result.version ≡ version }
     ensures rejected { result.rejected ≡ decider.totals.rejected }
@@ -89,6 +94,7 @@ pub(crate) fn outcome_of(version: Version, decider: Decider) -> Outcome
         → DeciderAfter files terms arrivals decider → result.summary ≡ summary_of files terms arrivals }
 {
     let totals = decider.totals;
+    let (tiers, pools) = figures_of(decider.controller);
     Outcome {
         version,
         rejected: totals.rejected,
@@ -96,12 +102,13 @@ pub(crate) fn outcome_of(version: Version, decider: Decider) -> Outcome
             counts: totals.counts,
             bypassed: totals.bypassed,
             samples: totals.samples,
-            tiers: tallies_of(decider.controller),
+            tiers,
+            pools,
         },
     }
 }
 
-/// Reads one more record: answers the messages that arrive with it, so many in all at most. `messages` is room for
+/// Reads one more record: answers the messages that arrive with it, so many in all at most. `messages` is a buffer for
 /// them, and holds those of the record afterwards.
 pub(crate) fn answer_record<T: Format, F: Tree, S: Source<F>, C: Reading, W: Write>(
     server: &Server<'_, F>,
@@ -240,7 +247,7 @@ pub(crate) fn replay_writing<T: Format, F: Tree, R: Read, W: Write>(
 ///
 /// `Capture` with the capture's first fault, or where its reader failed; `TooMany` at the first message beyond those
 /// that its format allows (1,048,576 in a capture); `Write` where the writer failed; `Memory`. The replies to the
-/// messages of earlier records stand.
+/// messages of earlier records are written.
 pub fn plain_replay<F: Tree, R: Read, W: Write>(
     alloc: Global,
     snapshot: &Snapshot,
@@ -250,8 +257,8 @@ pub fn plain_replay<F: Tree, R: Read, W: Write>(
 ) -> Result<Outcome, ReplayFault>
     requires snapshot { snapshot.now ≡ F.files }
     requires devices { CanFail reader.old × CanFail writer.old }
-    // After a fault of the capture, the replies of the messages of the whole records before it stand; after too many
-    // messages, those of the messages within the limit; else a prefix of what was due.
+    // After a fault of the capture, the replies of the messages of the whole records before it are written; after too
+    // many messages, those of the messages within the limit; else a prefix of the whole text.
     ensures fault { IfErr result (Leaves (reply_texts F.files settings.now.served)
         reader.old.bytes reader.new.bytes writer.old.bytes writer.new.bytes) }
     // A device is blamed only where it failed in this call.

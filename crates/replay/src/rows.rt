@@ -14,7 +14,7 @@ ghost use Rattle.replay.specs.Rowing.{charge_in, pool_of, turns_away, offered_wi
 use crate::decider::{Decider, decide_next};
 use crate::format::Format;
 use crate::lookup::{Lookup, look_up};
-use crate::pending::{Due, PendingReply};
+use crate::pending::{PendingAnswer, PendingReply};
 use crate::server::Server;
 use crate::source::Source;
 use crate::{ReplayFault, Settings};
@@ -50,21 +50,21 @@ fn pool_in(lookup: &Lookup) -> u8
 }
 
 /// The status that a message is answered with.
-fn status_of<F: Tree>(due: &Due<F>) -> u16
-    ensures { result ≡ status_of (given_by due.now) }
+fn status_of<F: Tree>(answer: &PendingAnswer<F>) -> u16
+    ensures { result ≡ status_of (given_by answer.now) }
 {
-    match due {
-        Due::Page { .. } => STATUS_CODES[OK_PLACE],
-        Due::Ready(given) => given.code(),
+    match answer {
+        PendingAnswer::Page { .. } => STATUS_CODES[OK_PLACE],
+        PendingAnswer::Ready(given) => given.code(),
     }
 }
 
 /// Whether a message is turned away.
-fn turns_away<F: Tree>(due: &Due<F>) -> bool
-    ensures { result ≡ turns_away (given_by due.now) }
+fn turns_away<F: Tree>(answer: &PendingAnswer<F>) -> bool
+    ensures { result ≡ turns_away (given_by answer.now) }
 {
-    match due {
-        Due::Ready(
+    match answer {
+        PendingAnswer::Ready(
             Given::Plain {
                 status: Status::ServiceUnavailable { .. },
             },
@@ -126,13 +126,13 @@ fn row_of<F: Tree>(
         → slip_of_pending pending.now ≡ slip_of files terms start (handled_next files terms arrivals a)
         → result ≡ row_of files terms arrivals a }
 {
-    let away = turns_away(&pending.due);
+    let away = turns_away(&pending.answer);
     Row {
         number: pending.number,
         conn: pending.conn,
         tick,
         tier: origin.tier,
-        status: status_of(&pending.due),
+        status: status_of(&pending.answer),
         pools,
         offered: offered_of(found, tick, charge, away),
     }

@@ -1,12 +1,13 @@
-//! The steps that a crew does to lots of messages, and the lots that it is given.
+//! The steps that helpers do to chunks of messages, and the chunks that they are given.
 
-ghost use Rattle.std.specs.Prelude.{◌≡◌, ◌+◌, ◌<◌, ◌≤◌, ◌++◌, [], List, length, map, flat_map, IfOk, OnOk};
-ghost use Rattle.stage_graph.specs.Crews.{AreSized};
+ghost use Rattle.std.specs.Prelude.{◌≡◌, ◌<◌, ◌≤◌, ◌++◌, [], map, IfOk, OnOk};
+ghost use Rattle.stage_graph.specs.Helpers.{AreSized};
 ghost use Rattle.replay.specs.Fronts.{floor_step};
 ghost use Rattle.replay.specs.Backs.{back_step};
-ghost use Rattle.replay.specs.Lots.{lot_step, lot_len, lot_value, seen_value, decided_value};
+ghost use Rattle.replay.specs.Chunks.{chunk_step, chunk_len, chunk_value, seen_value, decided_value, seen_in};
+ghost use Rattle.replay.specs.Chunks.{decided_in};
 
-use crate::lots::{Decided, Lot, LotValue, Seen};
+use crate::chunks::{Chunk, ChunkValue, Decided, Seen};
 use crate::server::Server;
 use page_cache::PageCache;
 use paths::Tree;
@@ -100,87 +101,87 @@ pub(crate) struct FloorSteps<'a, F: Tree, K: Pricing, T: Wait> {
 }
 
 impl<'a, F: Tree, K: Pricing, T: Wait> Steps for FloorSteps<'a, F, K, T> {
-    type Lot = Lot<F>;
+    type Chunk = Chunk<F>;
 
-    type Value = LotValue;
+    type Value = ChunkValue;
 
-    ghost step = { lot_step F.files K.tariff };
+    ghost step = { chunk_step F.files K.tariff };
 
-    ghost content = { lot_value F.files };
+    ghost content = { chunk_value F.files };
 
-    ghost count = { lot_len };
+    ghost count = { chunk_len };
 
-    fn work(&self, number: usize, lot: Lot<F>) -> Option<Lot<F>> {
-        let Lot { front, back } = lot;
+    fn work(&self, number: usize, chunk: Chunk<F>) -> Option<Chunk<F>> {
+        let Chunk { front, back } = chunk;
         let Ok(front) = self.serving.look_all(number, front) else {
             return None;
         };
         let Ok(back) = self.serving.advance_all(back) else {
             return None;
         };
-        Some(Lot { front, back })
+        Some(Chunk { front, back })
     }
 
-    fn len(&self, lot: &Lot<F>) -> usize {
-        lot.front.len().saturating_add(lot.back.len())
+    fn len(&self, chunk: &Chunk<F>) -> usize {
+        chunk.front.len().saturating_add(chunk.back.len())
     }
 }
 
-/// A lot without a message.
-pub(crate) fn empty_lot<F: Tree>(alloc: Global) -> Lot<F>
+/// A chunk without a message.
+pub(crate) fn empty_chunk<F: Tree>(alloc: Global) -> Chunk<F>
     ensures front { result.front.items ≡ [] }
     ensures back { result.back.items ≡ [] }
 {
-    Lot {
+    Chunk {
         front: Vec::new(alloc),
         back: Vec::new(alloc),
     }
 }
 
-/// Puts a lot after the others where it is full, or ends: what is left of it.
+/// Puts a chunk after the others where it is full, or ends: what is left of it.
 pub(crate) fn laid_by<F: Tree>(
     alloc: Global,
     size: usize,
     ends: bool,
-    lots: &mut Vec<Lot<F>>,
-    lot: Lot<F>,
-) -> Result<Lot<F>, AllocError>
-    requires size { (0 < lot_len lot) × (lot_len lot ≤ size) }
-    requires sized { AreSized lot_len size lots.old.items }
+    chunks: &mut Vec<Chunk<F>>,
+    chunk: Chunk<F>,
+) -> Result<Chunk<F>, AllocError>
+    requires size { (0 < chunk_len chunk) × (chunk_len chunk ≤ size) }
+    requires sized { AreSized chunk_len size chunks.old.items }
     ensures fronts { IfOk result
-        (λ rest. flat_map (λ lot. lot.front.items) lots.new.items ++ rest.front.items
-        ≡ flat_map (λ lot. lot.front.items) lots.old.items ++ lot.front.items) }
+        (λ rest. seen_in chunks.new.items ++ rest.front.items
+        ≡ seen_in chunks.old.items ++ chunk.front.items) }
     ensures backs { IfOk result
-        (λ rest. flat_map (λ lot. lot.back.items) lots.new.items ++ rest.back.items
-        ≡ flat_map (λ lot. lot.back.items) lots.old.items ++ lot.back.items) }
-    ensures sized { OnOk result (AreSized lot_len size lots.new.items) }
-    ensures room { IfOk result (λ rest. lot_len rest < size) }
+        (λ rest. decided_in chunks.new.items ++ rest.back.items
+        ≡ decided_in chunks.old.items ++ chunk.back.items) }
+    ensures sized { OnOk result (AreSized chunk_len size chunks.new.items) }
+    ensures room { IfOk result (λ rest. chunk_len rest < size) }
 {
-    if !ends && lot.front.len().saturating_add(lot.back.len()) < size {
-        return Ok(lot);
+    if !ends && chunk.front.len().saturating_add(chunk.back.len()) < size {
+        return Ok(chunk);
     }
-    lots.push(lot)?;
-    Ok(empty_lot(alloc))
+    chunks.push(chunk)?;
+    Ok(empty_chunk(alloc))
 }
 
-/// Puts what is left of the last lot after the others.
+/// Puts what is left of the last chunk after the others.
 pub(crate) fn last_laid_by<F: Tree>(
     size: usize,
-    lots: &mut Vec<Lot<F>>,
-    lot: Lot<F>,
+    chunks: &mut Vec<Chunk<F>>,
+    chunk: Chunk<F>,
 ) -> Result<(), AllocError>
-    requires size { lot_len lot ≤ size }
-    requires sized { AreSized lot_len size lots.old.items }
-    ensures fronts { OnOk result (flat_map (λ lot. lot.front.items) lots.new.items
-        ≡ flat_map (λ lot. lot.front.items) lots.old.items ++ lot.front.items) }
-    ensures backs { OnOk result (flat_map (λ lot. lot.back.items) lots.new.items
-        ≡ flat_map (λ lot. lot.back.items) lots.old.items ++ lot.back.items) }
-    ensures sized { OnOk result (AreSized lot_len size lots.new.items) }
+    requires size { chunk_len chunk ≤ size }
+    requires sized { AreSized chunk_len size chunks.old.items }
+    ensures fronts { OnOk result (seen_in chunks.new.items
+        ≡ seen_in chunks.old.items ++ chunk.front.items) }
+    ensures backs { OnOk result (decided_in chunks.new.items
+        ≡ decided_in chunks.old.items ++ chunk.back.items) }
+    ensures sized { OnOk result (AreSized chunk_len size chunks.new.items) }
 {
     let _size = size;
-    if lot.front.is_empty() && lot.back.is_empty() {
+    if chunk.front.is_empty() && chunk.back.is_empty() {
         return Ok(());
     }
-    lots.push(lot)?;
+    chunks.push(chunk)?;
     Ok(())
 }

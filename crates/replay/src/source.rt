@@ -53,8 +53,7 @@ pub(crate) trait Source<F: Tree> {
         file: usize,
         writer: &mut Output<W>,
     ) -> Result<(), ReplayFault>
-        requires file { file < length F.files }
-        requires date { slip.now.date ≤ max_time }
+        requires slip { (file < length F.files) × (slip.now.date ≤ max_time) }
         requires failures { CanFail writer.old }
         ensures written { OnOk result (Appends writer.old.bytes writer.new.bytes
             (record_text (given_as F.files slip.now (file_of F.files file).bytes))) }
@@ -64,7 +63,7 @@ pub(crate) trait Source<F: Tree> {
         ensures own { IfErr result IsWriteOrMemory };
 }
 
-/// The bytes go to the writer as they stand in the snapshot.
+/// The bytes go to the writer as they are in the snapshot.
 #[derive(Drop)]
 pub(crate) struct FromSnapshot;
 

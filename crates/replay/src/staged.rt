@@ -7,15 +7,15 @@ ghost use Rattle.reference.specs.Outcomes.{Leaves};
 ghost use Rattle.captures.specs.Passes.{BlamesReader, leaves_reads_untold, reader_failures, writer_failures};
 ghost use Rattle.reference.specs.Texts.{reply_texts};
 ghost use Rattle.stage_graph.specs.Layouts.{workers};
-ghost use Rattle.replay.specs.Lots.{AreFloorSteps};
+ghost use Rattle.replay.specs.Chunks.{AreFloorSteps};
 ghost use Rattle.replay.specs.Replayed.{Stopped, Replayed};
 
 use crate::advance::serve_next;
+use crate::chunks::{Chunk, ChunkValue};
 use crate::decider::{Decider, controller_of};
-use crate::groups::room_for_pages;
+use crate::floors::Floors;
+use crate::groups::page_capacity;
 use crate::load::Load;
-use crate::lots::{Lot, LotValue};
-use crate::parts::Floors;
 use crate::plain::outcome_of;
 use crate::replies::{write_first_line, write_last_line};
 use crate::server::Server;
@@ -29,7 +29,7 @@ use page_cache::PageCache;
 use paths::{Snapshot, Tree};
 use reference::Outcome;
 use responses::HeadRenderer;
-use stage_graph::{Carries, Crew, Gate, Naming, Opened, Register, Steps, Travel, beside};
+use stage_graph::{Carries, Gate, Helpers, Naming, Opened, Register, Steps, Travel, beside};
 use std::alloc::Global;
 use std::io::{Read, Write};
 use std::marker::{Brand, PhantomData};
@@ -73,11 +73,11 @@ pub fn staged_replay<
 ) -> Result<Outcome, ReplayFault>
     requires snapshot { snapshot.now ≡ F.files }
     requires devices { CanFail reader.old × CanFail writer.old }
-    // After a fault of the capture, the replies of the messages of the whole records before it stand; after too many
-    // messages, those of the messages within the limit; else a prefix of what was due.
+    // After a fault of the capture, the replies of the messages of the whole records before it are written; after too
+    // many messages, those of the messages within the limit; else a prefix of the whole text.
     ensures fault { IfErr result (Leaves (reply_texts F.files settings.now.served)
         reader.old.bytes reader.new.bytes writer.old.bytes writer.new.bytes) }
-    // A device is blamed exactly where it failed in this call; but one read that failed may go untold where the
+    // A device is blamed exactly where it failed in this call; but one read that failed may go unreported where the
     // messages before it are too many, where they can't be written, and where memory runs out.
     ensures reads { BlamesReader reader_failures leaves_reads_untold
         reader.old.failures reader.new.failures result }
@@ -105,7 +105,7 @@ trait Replays {
 
     ghost terms: { Self → Terms };
 
-    /// What it asks of its threads and its crew.
+    /// What it asks of its threads and its helpers.
     ghost shares: { Self → Type 0 };
 
     /// Replays a capture.
@@ -116,11 +116,11 @@ trait Replays {
     ) -> Result<Outcome, ReplayFault>
         requires shares { shares self.now }
         requires devices { CanFail reader.old × CanFail writer.old }
-        // After a fault of the capture, the replies of the messages of the whole records before it stand; after too
-        // many messages, those of the messages within the limit; else a prefix of what was due.
+        // After a fault of the capture, the replies of the messages of the whole records before it are written; after
+        // too many messages, those of the messages within the limit; else a prefix of the whole text.
         ensures fault { IfErr result (Stopped (reply_texts (files self.now) (terms self.now))
             reader.old.bytes reader.new.bytes writer.old.bytes writer.new.bytes) }
-        // A device is blamed exactly where it failed in this call; but one read that failed may go untold where the
+        // A device is blamed exactly where it failed in this call; but one read that failed may go unreported where the
         // messages before it are too many, where they can't be written, and where memory runs out.
         ensures reads { BlamesReader reader_failures leaves_reads_untold
             reader.old.failures reader.new.failures result }
@@ -133,13 +133,13 @@ trait Replays {
 #[derive(Drop)]
 struct Staged<'v, 'a, F: Tree, K: Pricing, C, Q, G, T: Wait> {
     serving: &'a Serving<'a, F, K, T>,
-    crew: &'v C,
+    helpers: &'v C,
     register: &'v Mutex<Q>,
     gate: &'a G,
     threads: usize,
 }
 
-/// The same under names for what requests cost and for the register of lots.
+/// The same under names for what requests cost and for the register of chunks.
 fn replay_named<
     'a,
     F: Tree + Send + Sync,
@@ -153,7 +153,7 @@ fn replay_named<
     rt: &'a T,
     server: Server<'a, F>,
     gate: &'a G,
-    register: Opened<Lot<F>>,
+    register: Opened<Chunk<F>>,
     reader: &mut Input<R>,
     writer: &mut Output<W>,
 ) -> Result<Outcome, ReplayFault>
@@ -178,13 +178,13 @@ fn replay_named<
     )
 }
 
-/// Replays by a crew that takes these steps.
+/// Replays by helpers that take these steps.
 fn replay_with<
     'a,
     F: Tree + Send + Sync,
     K: Pricing + Send + Sync,
     J: Naming + Send + Sync,
-    S: Steps<Lot = Lot<F>, Value = LotValue> + Sync + Drop,
+    S: Steps<Chunk = Chunk<F>, Value = ChunkValue> + Sync + Drop,
     G: Gate + Sync,
     T: Threads + Wait + Sync,
     R: Read,
@@ -193,7 +193,7 @@ fn replay_with<
     serving: &'a Serving<'a, F, K, T>,
     steps: S,
     gate: &'a G,
-    register: Register<Lot<F>, J>,
+    register: Register<Chunk<F>, J>,
     reader: &mut Input<R>,
     writer: &mut Output<W>,
 ) -> Result<Outcome, ReplayFault>
@@ -205,9 +205,9 @@ fn replay_with<
 {
     let alloc = serving.server.alloc;
     let travel = Travel::<S, J>::new(steps);
-    let crew = Crew::new(serving.rt, alloc, &travel, gate);
+    let helpers = Helpers::new(serving.rt, alloc, &travel, gate);
     let register = Mutex::new(register);
-    replay_by(serving, &crew, &register, gate, reader, writer)
+    replay_by(serving, &helpers, &register, gate, reader, writer)
 }
 
 /// How many threads work: as many as the larger floor has workers, and no more than there are processors.
@@ -219,22 +219,22 @@ fn threads_for(processors: usize, settings: &Settings) -> usize
     processors.min(workers)
 }
 
-/// Replays by this crew, the calling thread and as many helpers as make up [`threads_for`].
+/// Replays by the calling thread and as many of these helpers as make up [`threads_for`].
 fn replay_by<
     'v,
     'a,
     F: Tree + Send + Sync,
     K: Pricing + Send + Sync,
     J: Naming + Send + Sync,
-    S: Steps<Lot = Lot<F>, Value = LotValue> + Sync,
+    S: Steps<Chunk = Chunk<F>, Value = ChunkValue> + Sync,
     G: Gate + Sync,
     T: Threads + Wait + Sync,
     R: Read,
     W: Write,
 >(
     serving: &'a Serving<'a, F, K, T>,
-    crew: &'v Crew<'_, Travel<S, J>, G, T>,
-    register: &'v Mutex<Register<Lot<F>, J>>,
+    helpers: &'v Helpers<'_, Travel<S, J>, G, T>,
+    register: &'v Mutex<Register<Chunk<F>, J>>,
     gate: &'a G,
     reader: &mut Input<R>,
     writer: &mut Output<W>,
@@ -248,15 +248,15 @@ fn replay_by<
     let threads = threads_for(processors(serving.rt), serving.server.settings);
     let staged = Staged {
         serving,
-        crew,
+        helpers,
         register,
         gate,
         threads,
     };
-    replay_beside(crew, threads.saturating_sub(1), &staged, reader, writer)
+    replay_beside(helpers, threads.saturating_sub(1), &staged, reader, writer)
 }
 
-/// Replays beside so many helpers of a crew.
+/// Replays beside so many of these helpers.
 fn replay_beside<
     S: Steps + Sync,
     J: Naming + Send + Sync,
@@ -266,22 +266,22 @@ fn replay_beside<
     R: Read,
     W: Write,
 >(
-    crew: &Crew<'_, Travel<S, J>, G, T>,
-    helpers: usize,
+    helpers: &Helpers<'_, Travel<S, J>, G, T>,
+    helper_count: usize,
     staged: &P,
     reader: &mut Input<R>,
     writer: &mut Output<W>,
 ) -> Result<Outcome, ReplayFault>
 where
-    S::Lot: Send,
+    S::Chunk: Send,
     S::Value: Send,
     requires shares { P.shares staged.now }
     requires devices { CanFail reader.old × CanFail writer.old }
-    // After a fault of the capture, the replies of the messages of the whole records before it stand; after too many
-    // messages, those of the messages within the limit; else a prefix of what was due.
+    // After a fault of the capture, the replies of the messages of the whole records before it are written; after too
+    // many messages, those of the messages within the limit; else a prefix of the whole text.
     ensures fault { IfErr result (Stopped (reply_texts (P.files staged.now) (P.terms staged.now))
         reader.old.bytes reader.new.bytes writer.old.bytes writer.new.bytes) }
-    // A device is blamed exactly where it failed in this call; but one read that failed may go untold where the
+    // A device is blamed exactly where it failed in this call; but one read that failed may go unreported where the
     // messages before it are too many, where they can't be written, and where memory runs out.
     ensures reads { BlamesReader reader_failures leaves_reads_untold
         reader.old.failures reader.new.failures result }
@@ -290,8 +290,8 @@ where
         (Answers (P.files staged.now) (P.terms staged.now) reader.old.bytes writer.old.bytes writer.new.bytes) }
 {
     beside(
-        crew,
         helpers,
+        helper_count,
         &mut ||
             requires { P.shares staged.now × CanFail reader.now × CanFail writer.now }
         { staged.replay(reader, writer) },
@@ -304,7 +304,7 @@ impl<
     F: Tree,
     K: Pricing,
     Q,
-    C: Carries<Lot = Lot<F>, Value = LotValue, Register = Q>,
+    C: Carries<Chunk = Chunk<F>, Value = ChunkValue, Register = Q>,
     G: Gate,
     T: Threads + Wait + Sync,
 > Replays for Staged<'v, 'a, F, K, C, Q, G, T> {
@@ -340,11 +340,11 @@ impl<
         };
         let floors = Floors {
             serving,
-            crew: self.crew,
+            helpers: self.helpers,
             register: self.register,
             gate: self.gate,
             threads: self.threads,
-            room: room_for_pages(server.snapshot, settings.cache()),
+            capacity: page_capacity(server.snapshot, settings.cache()),
             most: version.max_messages(),
             load: Load::new(),
         };

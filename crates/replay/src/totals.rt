@@ -3,10 +3,10 @@
 ghost use Rattle.std.specs.Prelude.{◌≡◌, ◌-◌, ◌<◌, ◌^◌, []};
 ghost use Rattle.responses.specs.Reference.{status_of};
 ghost use Rattle.reference.specs.Reference.{breaks_a_rule};
-ghost use Rattle.replay.specs.Totals.{AreBelow, with_status, no_counts, noted};
+ghost use Rattle.replay.specs.Totals.{AreBelow, with_status, no_counts, with_reply};
 ghost use Rattle.replay.specs.Backs.{given_by};
 
-use crate::pending::Due;
+use crate::pending::PendingAnswer;
 use arrivals::Series;
 use http_requests::Meaning;
 use paths::Tree;
@@ -46,15 +46,15 @@ impl Totals {
     }
 
     /// Counts one more message, and how it is to be answered.
-    pub(crate) fn note<F: Tree>(&mut self, due: &Due<F>, what: &Meaning)
+    pub(crate) fn record_reply<F: Tree>(&mut self, answer: &PendingAnswer<F>, what: &Meaning)
         requires number { self.old.answered < 2 ^ 64 - 1 }
         requires counts { AreBelow (2 ^ 64 - 1) self.old.counts }
         requires bypassed { self.old.bypassed < 2 ^ 64 - 1 }
         ensures { self.new
-            ≡ noted self.old (status_of (given_by due.now)) (breaks_a_rule what.now) }
+            ≡ with_reply self.old (status_of (given_by answer.now)) (breaks_a_rule what.now) }
     {
         self.answered += 1;
-        count_status(&mut self.counts, due);
+        count_status(&mut self.counts, answer);
         if breaks_a_rule(what) {
             self.bypassed += 1;
         }
@@ -62,11 +62,11 @@ impl Totals {
 }
 
 /// Counts one more message, by the status that it is to be answered with.
-pub(crate) fn count_status<F: Tree>(counts: &mut Counts, due: &Due<F>)
+pub(crate) fn count_status<F: Tree>(counts: &mut Counts, answer: &PendingAnswer<F>)
     requires { AreBelow (2 ^ 64 - 1) counts.old }
-    ensures { counts.new ≡ with_status counts.old (status_of (given_by due.now)) }
+    ensures { counts.new ≡ with_status counts.old (status_of (given_by answer.now)) }
 {
-    counts.by_status[due.status_place()] += 1;
+    counts.by_status[answer.status_place()] += 1;
 }
 
 /// Whether a message breaks a rule, and so is no request.

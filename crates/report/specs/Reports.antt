@@ -5,6 +5,7 @@ use Rattle.captures.specs.declared.version.Version.{Version}
 use Rattle.captures.specs.Reference.{format_of}
 use Rattle.admission.specs.Reference.{sorted}
 use Rattle.admission.specs.declared.control.Control.{Control}
+use Rattle.admission.specs.declared.control.PoolFigures.{PoolFigures}
 use Rattle.responses.specs.Reference.{statuses}
 use Rattle.reference.specs.declared.summary.Outcome.{Outcome}
 use Rattle.reference.specs.declared.summary.Counts.{Counts}
@@ -127,6 +128,20 @@ all_tier_lines version (zero ∷ above) =
     line (codes "controls") (length zero.controls) ++ control_lines version zero.controls
     ++ tiers_above_lines version above
 
+-- a pool's number, how many of its requests were admitted, how long its servers work on them in all, and how many
+-- waited at most
+abbrev pub pool_line : ℕ → PoolFigures → List ℕ
+pool_line pool figures =
+    codes "pool " ++ decimal pool
+    ++ codes " " ++ decimal figures.admitted
+    ++ codes " " ++ decimal figures.busy
+    ++ codes " " ++ decimal figures.longest_queue
+    ++ codes "\n"
+
+-- the lines of the pools, of which the first is pool 0
+abbrev pub pool_lines : List PoolFigures → List ℕ
+pool_lines pools = flat_map (numbered_lines pool_line) (numbered_from 0 pools)
+
 -- a line for each request that was turned away
 abbrev pub reject_line : ℕ → List ℕ
 reject_line number = line (codes "reject") number
@@ -142,6 +157,7 @@ lines_before_rejects outcome =
     ++ status_lines outcome.summary.counts
     ++ percentile_lines outcome.summary.samples
     ++ all_tier_lines outcome.version outcome.summary.tiers
+    ++ pool_lines outcome.summary.pools
 
 -- the report of what a replay has come to
 abbrev pub report_text : Outcome → List ℕ

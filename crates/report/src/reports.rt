@@ -5,11 +5,11 @@ ghost use Rattle.std.specs.String.{string_bytes};
 ghost use Rattle.report.specs.Reports.{total_lines, status_line, status_lines, percentile_line, percentile_lines};
 ghost use Rattle.report.specs.Reports.{numbered_from, numbered_lines};
 ghost use Rattle.report.specs.Reports.{control_line, control_lines, left_out, tier_line, tier_lines};
-ghost use Rattle.report.specs.Reports.{tiers_above_lines, all_tier_lines, lines_before_rejects, reject_lines};
-ghost use Rattle.report.specs.Reports.{report_text};
+ghost use Rattle.report.specs.Reports.{tiers_above_lines, all_tier_lines, pool_line, pool_lines};
+ghost use Rattle.report.specs.Reports.{lines_before_rejects, reject_lines, report_text};
 
 use crate::percentiles::{percentile, sorted};
-use admission::Control;
+use admission::{Control, PoolFigures};
 use arrivals::Series;
 use captures::Version;
 use reference::{Counts, Outcome, Summary, Tally};
@@ -191,6 +191,29 @@ fn write_tiers(text: &mut String, version: Version, tiers: &[Tally; 4]) -> Resul
     write_tiers_above(text, version, &tiers[1..])
 }
 
+/// Writes the line of a pool, by its number.
+fn write_pool(text: &mut String, pool: usize, figures: PoolFigures) -> Result<(), AllocError>
+    ensures { OnOk result
+        (string_bytes text.new ≡ string_bytes text.old ++ pool_line pool figures) }
+{
+    writeln!(
+        text,
+        "pool {pool} {} {} {}",
+        figures.admitted, figures.busy, figures.longest_queue
+    )
+}
+
+/// Writes the lines of the pools, of which the first is pool 0.
+fn write_pools(text: &mut String, pools: &[PoolFigures]) -> Result<(), AllocError>
+    ensures { OnOk result
+        (string_bytes text.new ≡ string_bytes text.old ++ pool_lines pools.now) }
+{
+    for (pool, figures) in pools.iter().enumerate() {
+        write_pool(text, pool, *figures)?;
+    }
+    Ok(())
+}
+
 /// Writes the numbers of the requests that were turned away.
 fn write_rejects(text: &mut String, rejected: &[usize]) -> Result<(), AllocError>
     ensures { OnOk result
@@ -223,19 +246,22 @@ pub(crate) fn lines_before_rejects(
         counts,
         samples,
         tiers,
+        pools,
         ..
     } = summary;
     write_statuses(&mut text, counts)?;
     write_percentiles(&mut text, samples.into_vec())?;
     write_tiers(&mut text, version, &tiers)?;
+    write_pools(&mut text, pools.as_slice())?;
     Ok((text, rejected))
 }
 
 /// The report of a replay: how many messages there were and what became of them, how many were answered with each
 /// status, the percentiles of the admitted requests' times (in ticks of one microsecond), the changes of tier 0's rate,
-/// for each tier above it with a request that was offered what became of its requests and the changes of its rate, and
-/// the numbers of the rejected requests. docs/FORMATS.md has its format. The samples are sorted where they lie, and not
-/// kept a second time. ([`crate::write_report`] writes it without the lines of the rejected requests in memory.)
+/// for each tier above it with a request that was offered what became of its requests and the changes of its rate,
+/// where there are several pools what each has done (its servers' work in ticks), and the numbers of the rejected
+/// requests. docs/FORMATS.md has its format. The samples are sorted where they lie, and not kept a second time.
+/// ([`crate::write_report`] writes it without the lines of the rejected requests in memory.)
 ///
 /// # Errors
 ///

@@ -1,5 +1,5 @@
 //! Outcomes that are put together from their parts.
-use admission::Control;
+use admission::{Control, PoolFigures};
 use arrivals::Series;
 use captures::Version;
 use reference::{Counts, Outcome, Summary, Tally};
@@ -25,6 +25,7 @@ fn outcome(
     bypassed: u64,
     samples: Vec<u64>,
     tiers: [Tally; 4],
+    pools: Vec<PoolFigures>,
     rejected: Vec<usize>,
 ) -> Outcome {
     Outcome {
@@ -35,6 +36,7 @@ fn outcome(
             bypassed,
             samples: Series::from_vec(samples),
             tiers,
+            pools: Series::from_vec(pools),
         },
     }
 }
@@ -59,7 +61,14 @@ pub fn each_status(alloc: Global) -> Result<Outcome, AllocError> {
     let rejected = Vec::from_slice(alloc, &[3, 44])?;
     let controls = Vec::from_slice(alloc, &[FIRST, SECOND])?;
     let tiers = [tally(3, 2, controls), idle(alloc), idle(alloc), idle(alloc)];
-    Ok(outcome([1, 2, 3, 4, 5, 6, 7, 8, 9], 40, samples, tiers, rejected))
+    Ok(outcome(
+        [1, 2, 3, 4, 5, 6, 7, 8, 9],
+        40,
+        samples,
+        tiers,
+        Vec::new(alloc),
+        rejected,
+    ))
 }
 
 /// In tier 1 every request was rejected, in tier 3 none, and in tiers 0 and 2 none was offered.
@@ -76,12 +85,33 @@ fn four_tiers(alloc: Global) -> Result<[Tally; 4], AllocError> {
     ])
 }
 
-/// The outcome of these. One request was answered with 301, two with 503.
+static POOLS: [PoolFigures; 2] = [
+    PoolFigures {
+        admitted: 0,
+        busy: 0,
+        longest_queue: 0,
+    },
+    PoolFigures {
+        admitted: 1,
+        busy: 40,
+        longest_queue: 2,
+    },
+];
+
+/// The outcome of these, with two pools. One request was answered with 301, two with 503.
 pub fn each_tier(alloc: Global) -> Result<Outcome, AllocError> {
     let samples = Vec::from_slice(alloc, &[50])?;
     let rejected = Vec::from_slice(alloc, &[0, 2])?;
+    let pools = Vec::from_slice(alloc, &POOLS)?;
     match four_tiers(alloc) {
-        Ok(tiers) => Ok(outcome([0, 1, 0, 0, 0, 0, 0, 0, 2], 0, samples, tiers, rejected)),
+        Ok(tiers) => Ok(outcome(
+            [0, 1, 0, 0, 0, 0, 0, 0, 2],
+            0,
+            samples,
+            tiers,
+            pools,
+            rejected,
+        )),
         Err(fault) => Err(fault),
     }
 }
@@ -133,6 +163,6 @@ pub fn many(alloc: Global, version: Version) -> Result<Outcome, AllocError> {
     ];
     Ok(Outcome {
         version,
-        ..outcome([0; 9], 0, samples, tiers, rejected)
+        ..outcome([0; 9], 0, samples, tiers, Vec::new(alloc), rejected)
     })
 }

@@ -37,7 +37,7 @@ fn of_each_status(rt: HostRuntime) {
     assert_eq!(rt; text.as_str(), EACH_STATUS);
 }
 
-/// Each tier's controls are numbered from 1.
+/// Each tier's controls are numbered from 1, and the pools from 0.
 static EACH_TIER: &str = "haboob-report 1
 messages 3
 bypassed 0
@@ -62,6 +62,8 @@ control 1 5000 5000 1500 833
 control 2 5100 100 1080 694
 tier 3 1 0 1
 control 1 5000 5000 1500 833
+pool 0 0 0 0
+pool 1 1 40 2
 reject 0
 reject 2
 end

@@ -2,9 +2,9 @@
 use Rattle.devices.proofs.Appending.{prefix_all, prefix_first}
 use Rattle.devices.specs.Reference.{line_feed}
 use Rattle.devices.specs.Devices.{Device, AppendsPrefix}
-use Rattle.std.proofs.Common.{◌≡◌, ◌≢◌, ◌⊎◌, inl, inr, ℕ, ◌+◌, ◌<◌, ◌≤◌, Bool, true, false, List, [], ◌∷◌, ◌++◌, length, take, drop, get_or, is_some, Option, Some, None, Result, Ok, Err, IfOk, IfErr, refl, sym, ap, ◌∙◌, subst, arith, decimal, append-nil}
+use Rattle.std.proofs.Common.{◌≡◌, ◌≢◌, ◌⊎◌, inl, inr, ℕ, ◌+◌, ◌<◌, ◌≤◌, Bool, true, false, List, [], ◌∷◌, ◌++◌, length, map, take, drop, get_or, is_some, Option, Some, None, Result, Ok, Err, IfOk, IfErr, OnOk, MatchResult, refl, sym, ap, ap₂, ◌∙◌, subst, arith, decimal, append-nil}
 use Rattle.std.proofs.lemmas.Fmt.{length-decimal-le}
-use Rattle.std.proofs.lemmas.List.{append_assoc, length-append, take_more, take_all, take-append-drop}
+use Rattle.std.proofs.lemmas.List.{append_assoc, length-append, map-append, take_more, take_all, take-append-drop}
 use Rattle.std.specs.Io.KnownBytes.{Appends}
 use Rattle.paths.specs.declared.file.File.{File}
 use Rattle.paths.specs.Snapshots.{last_line, text_before_end, snapshot_text, IsSnapshotText}
@@ -23,7 +23,7 @@ use Rattle.runs.specs.declared.folder.Contents.{Contents}
 use Rattle.runs.specs.declared.folder.Found.{Found}
 use Rattle.faults.specs.declared.fault.Place.TheVariants.{Output}
 use Rattle.faults.specs.declared.fault.Place.TheVariants as places
-use Rattle.runs.specs.Folders.{Answering, AddsFile, AddsFound, Breaks, Cuts, CutsFile, CutsFound, IsOutputFault, IsRefused, IsSnapshotRunFault, IsTaken, Names, Takes, WritesFolder, WritesFolderPrefix, name_of, refusal, unwritten}
+use Rattle.runs.specs.Folders.{Answering, AddsFile, AddsFound, Breaks, Cuts, CutsFile, CutsFound, IsOutputFault, IsRefused, IsSnapshotRunFault, IsTaken, LeavesOut, Names, Takes, WritesFolder, WritesFolderPrefix, name_of, names_taken, none_left_out, refusal, unwritten}
 
 -- ---- the first line and the last
 
@@ -106,58 +106,84 @@ found_err answers files before found c (Err f) now known says h = cut_found answ
 
 -- ---- all that was found
 
-takes_one : (answers : Answering) (before : List File) (xs : List Found) (x : Found) (mid : List File) (n : ℕ) (f : File) → Takes answers before xs mid n → IsTaken answers mid x f → Takes answers before (xs ++ x ∷ []) (mid ++ f ∷ []) n
-takes_one answers before [] x mid n f h taken =
-    inl (f, subst (λ (fs : List File). IsTaken answers fs x f) h.0 taken, (ap (λ (fs : List File). fs ++ f ∷ []) h.0, h.1))
-takes_one answers before (y ∷ xs) x mid n f (inl h) taken = inl (h.0, h.1, takes_one answers (before ++ h.0 ∷ []) xs x mid n f h.2 taken)
-takes_one answers before (y ∷ xs) x mid n f (inr h) taken = inr (h.0, h.1, h.2, h.3, takes_one answers before xs x mid h.1 f h.4 taken)
+takes_one : (answers : Answering) (before : List File) (xs : List Found) (x : Found) (mid : List File) (whys : List (Option FileFault)) (f : File) → Takes answers before xs mid whys → IsTaken answers mid x f
+    → Takes answers before (xs ++ x ∷ []) (mid ++ f ∷ []) (whys ++ None ∷ [])
+takes_one answers before [] x mid [] f h taken = (f, subst (λ (fs : List File). IsTaken answers fs x f) h taken, ap (λ (fs : List File). fs ++ f ∷ []) h)
+takes_one answers before [] x mid (why ∷ whys) f h taken = absurd h
+takes_one answers before (y ∷ xs) x mid [] f h taken = absurd h
+takes_one answers before (y ∷ xs) x mid (None ∷ whys) f h taken = (h.0, h.1, takes_one answers (before ++ h.0 ∷ []) xs x mid whys f h.2 taken)
+takes_one answers before (y ∷ xs) x mid (Some fault ∷ whys) f h taken = (h.0, takes_one answers before xs x mid whys f h.1 taken)
 
-leaves_one : (answers : Answering) (before : List File) (xs : List Found) (x : Found) (mid : List File) (n : ℕ) (fault : FileFault) → Takes answers before xs mid n → IsRefused answers mid x fault → Takes answers before (xs ++ x ∷ []) mid (n + 1)
-leaves_one answers before [] x mid n fault h refused =
-    inr (fault, 0, subst (λ (fs : List File). IsRefused answers fs x fault) h.0 refused, ap (λ (k : ℕ). k + 1) h.1, (h.0, refl))
-leaves_one answers before (y ∷ xs) x mid n fault (inl h) refused = inl (h.0, h.1, leaves_one answers (before ++ h.0 ∷ []) xs x mid n fault h.2 refused)
-leaves_one answers before (y ∷ xs) x mid n fault (inr h) refused = inr (h.0, h.1 + 1, h.2, ap (λ (k : ℕ). k + 1) h.3, leaves_one answers before xs x mid h.1 fault h.4 refused)
+leaves_one : (answers : Answering) (before : List File) (xs : List Found) (x : Found) (mid : List File) (whys : List (Option FileFault)) (fault : FileFault) → Takes answers before xs mid whys → IsRefused answers mid x fault
+    → Takes answers before (xs ++ x ∷ []) mid (whys ++ Some fault ∷ [])
+leaves_one answers before [] x mid [] fault h refused = (subst (λ (fs : List File). IsRefused answers fs x fault) h refused, h)
+leaves_one answers before [] x mid (why ∷ whys) fault h refused = absurd h
+leaves_one answers before (y ∷ xs) x mid [] fault h refused = absurd h
+leaves_one answers before (y ∷ xs) x mid (None ∷ whys) fault h refused = (h.0, h.1, leaves_one answers (before ++ h.0 ∷ []) xs x mid whys fault h.2 refused)
+leaves_one answers before (y ∷ xs) x mid (Some other ∷ whys) fault h refused = (h.0, leaves_one answers before xs x mid whys fault h.1 refused)
+
+-- the names of the files
+abbrev own_name : File → List ℕ
+own_name f = f.name
+
+names_are : (answers : Answering) (before : List File) (found : List Found) (files : List File) (whys : List (Option FileFault)) → Takes answers before found files whys → map own_name files ≡ map own_name before ++ names_taken found whys
+names_are answers before [] files [] h = ap (map own_name) h ∙ sym (append-nil (map own_name before))
+names_are answers before [] files (why ∷ whys) h = absurd h
+names_are answers before (x ∷ found) files [] h = absurd h
+names_are answers before (x ∷ found) files (None ∷ whys) h =
+    let own : h.0.name ≡ name_of x = ap own_name h.1.0.3 in
+    names_are answers (before ++ h.0 ∷ []) found files whys h.2 ∙ ap (λ (ns : List (List ℕ)). ns ++ names_taken found whys) (map-append own_name before (h.0 ∷ []))
+    ∙ append_assoc (map own_name before) (h.0.name ∷ []) (names_taken found whys)
+    ∙ ap (λ (n : List ℕ). map own_name before ++ n ∷ names_taken found whys) own
+names_are answers before (x ∷ found) files (Some fault ∷ whys) h = names_are answers before found files whys h.1
 
 -- what stands after n of what was found
-pub record Stands (answers : Answering) (found : List Found) (at : ℕ) (skip : Bool) (skipped : ℕ) (before now : Option (List ℕ)) (s : FilesSoFar) : Type 0 where
+pub record Stands (answers : Answering) (found : List Found) (at : ℕ) (skip : Bool) (whys : List (Option FileFault)) (before now : Option (List ℕ)) (s : FilesSoFar) : Type 0 where
   pub files : List File
-  pub takes : Takes answers [] (take at found) files skipped
+  pub takes : Takes answers [] (take at found) files whys
   pub took : Took files before now s
-  pub all : skip ≡ false → skipped ≡ 0
-  pub few : skipped ≤ at
+  pub all : skip ≡ false → whys ≡ none_left_out (take at found)
 
-pub stands_none : (answers : Answering) (found : List Found) (skip : Bool) (before now : Option (List ℕ)) (s : FilesSoFar) → Took [] before now s → Stands answers found 0 skip 0 before now s
-stands_none answers found skip before now s took = record {
-  files = [];
-  takes = (refl, refl);
-  took = took;
-  all = λ e. refl;
-  few = omega arith;
-}
+pub stands_none : (answers : Answering) (found : List Found) (skip : Bool) (before now : Option (List ℕ)) (s : FilesSoFar) → Took [] before now s → Stands answers found 0 skip [] before now s
+stands_none answers found skip before now s took = record { files = []; takes = refl; took = took; all = λ e. refl }
 
-pub stands_taken : (answers : Answering) (found : List Found) (at : ℕ) (skip : Bool) (skipped : ℕ) (before now new : Option (List ℕ)) (s next : FilesSoFar) (item : Found) → at < length found → item ≡ get_or found at item
-    → (stands : Stands answers found at skip skipped before now s) → AddsFound answers stands.files before item None new next → Stands answers found (at + 1) skip skipped before new next
-stands_taken answers found at skip skipped before now new s next item lt is stands adds = record {
+abbrev not_left : Found → Option FileFault
+not_left one = None
+
+-- one more of what was found
+first_more : (found : List Found) (at : ℕ) (item : Found) → at < length found → item ≡ get_or found at item → take at found ++ item ∷ [] ≡ take (at + 1) found
+first_more found at item lt is = ap (λ (x : Found). take at found ++ x ∷ []) is ∙ sym (take_more found at item lt)
+
+none_more : (found : List Found) (at : ℕ) (item : Found) (whys : List (Option FileFault)) (why : Option FileFault) → at < length found → item ≡ get_or found at item → whys ≡ none_left_out (take at found) → why ≡ None
+    → whys ++ why ∷ [] ≡ none_left_out (take (at + 1) found)
+none_more found at item whys why lt is none isnt =
+    ap₂ (λ (ws : List (Option FileFault)) (w : Option FileFault). ws ++ w ∷ []) none isnt
+    ∙ sym (map-append not_left (take at found) (item ∷ []))
+    ∙ ap none_left_out (first_more found at item lt is)
+
+pub stands_more : (answers : Answering) (found : List Found) (at : ℕ) (skip : Bool) (whys : List (Option FileFault)) (why : Option FileFault) (before now new : Option (List ℕ)) (s next : FilesSoFar) (item : Found) → at < length found → item ≡ get_or found at item
+    → (stands : Stands answers found at skip whys before now s) → (skip ≡ false → why ≡ None) → AddsFound answers stands.files before item why new next → Stands answers found (at + 1) skip (whys ++ why ∷ []) before new next
+stands_more answers found at skip whys None before now new s next item lt is stands only adds = record {
   files = stands.files ++ adds.0 ∷ [];
-  takes = subst (λ (fs : List Found). Takes answers [] fs (stands.files ++ adds.0 ∷ []) skipped)
-      (ap (λ (x : Found). take at found ++ x ∷ []) is ∙ sym (take_more found at item lt))
-      (takes_one answers [] (take at found) item stands.files skipped adds.0 stands.takes adds.1);
+  takes = subst (λ (fs : List Found). Takes answers [] fs (stands.files ++ adds.0 ∷ []) (whys ++ None ∷ [])) (first_more found at item lt is)
+      (takes_one answers [] (take at found) item stands.files whys adds.0 stands.takes adds.1);
   took = adds.2;
-  all = stands.all;
-  few = omega (arith, stands.few);
+  all = λ e. none_more found at item whys None lt is (stands.all e) refl;
+}
+stands_more answers found at skip whys (Some fault) before now new s next item lt is stands only adds = record {
+  files = stands.files;
+  takes = subst (λ (fs : List Found). Takes answers [] fs stands.files (whys ++ Some fault ∷ [])) (first_more found at item lt is)
+      (leaves_one answers [] (take at found) item stands.files whys fault stands.takes adds.0);
+  took = adds.1;
+  all = λ e. none_more found at item whys (Some fault) lt is (stands.all e) (only e);
 }
 
-pub stands_left : (answers : Answering) (found : List Found) (at : ℕ) (skip : Bool) (skipped : ℕ) (before now new : Option (List ℕ)) (s next : FilesSoFar) (item : Found) (fault : FileFault) → at < length found → item ≡ get_or found at item → skip ≡ true
-    → (stands : Stands answers found at skip skipped before now s) → AddsFound answers stands.files before item (Some fault) new next → Stands answers found (at + 1) skip (skipped + 1) before new next
-stands_left answers found at skip skipped before now new s next item fault lt is skips stands adds = record {
-  files = stands.files;
-  takes = subst (λ (fs : List Found). Takes answers [] fs stands.files (skipped + 1))
-      (ap (λ (x : Found). take at found ++ x ∷ []) is ∙ sym (take_more found at item lt))
-      (leaves_one answers [] (take at found) item stands.files skipped fault stands.takes adds.0);
-  took = adds.1;
-  all = λ e. (let never : true ≡ false = sym skips ∙ e in cc);
-  few = omega (arith, stands.few);
-}
+-- what is known of what was left out, at each moment
+pub left_out : (answers : Answering) (found : List Found) (at : ℕ) (skip : Bool) (whys : List (Option FileFault)) (before now : Option (List ℕ)) (s : FilesSoFar) → Stands answers found at skip whys before now s → LeavesOut answers found skip whys
+left_out answers found at skip whys before now s stands = (take at found, drop at found, stands.files, sym (take-append-drop at found), stands.takes, stands.all)
+
+pub none_out : (answers : Answering) (found : List Found) (skip : Bool) → LeavesOut answers found skip []
+none_out answers found skip = ([], found, [], refl, refl, λ e. refl)
 
 -- a list is its first items, one, and the rest
 parted : (found : List Found) (at : ℕ) (item : Found) → at < length found → item ≡ get_or found at item → found ≡ take at found ++ item ∷ drop (at + 1) found
@@ -170,31 +196,31 @@ parted found at item lt is =
 
 pub none_begun : (answers : Answering) (found : List Found) (skip : Bool) (old new : Option (List ℕ)) (f : Fault) → Cuts (text_before_end []) old new f → IsSnapshotRunFault answers found skip old new f
 none_begun answers found skip old new f h =
-    inl (inl h.0, ([], found, [], 0, refl, (refl, refl), no_files, prefix_first old new (text_before_end []) (last_line [] ++ line_feed ∷ []) h.1))
+    inl (inl h.0, ([], found, [], [], refl, refl, no_files, prefix_first old new (text_before_end []) (last_line [] ++ line_feed ∷ []) h.1))
 
 -- out of memory between two files
-kept_prefix : (answers : Answering) (found : List Found) (at : ℕ) (skipped : ℕ) (old new : Option (List ℕ)) (files : List File) (s : FilesSoFar) (was : Option (List ℕ)) → Takes answers [] (take at found) files skipped → Took files old was s
+kept_prefix : (answers : Answering) (found : List Found) (at : ℕ) (whys : List (Option FileFault)) (old new : Option (List ℕ)) (files : List File) (s : FilesSoFar) (was : Option (List ℕ)) → Takes answers [] (take at found) files whys → Took files old was s
     → Appends old new (text_before_end files) → WritesFolderPrefix answers found old new
-kept_prefix answers found at skipped old new files s was takes took h = (
+kept_prefix answers found at whys old new files s was takes took h = (
   take at found,
   drop at found,
   files,
-  skipped,
+  whys,
   sym (take-append-drop at found),
   takes,
   whole files old was s took,
   prefix_first old new (text_before_end files) (last_line files ++ line_feed ∷ []) (prefix_all old new (text_before_end files) h),
 )
 
-cut_prefix : (answers : Answering) (found : List Found) (at : ℕ) (skip : Bool) (skipped : ℕ) (old now new : Option (List ℕ)) (s : FilesSoFar) (item : Found) (f : File) → at < length found → item ≡ get_or found at item
-    → (stands : Stands answers found at skip skipped old now s) → IsTaken answers stands.files item f → AppendsPrefix old new (text_before_end (stands.files ++ f ∷ [])) → WritesFolderPrefix answers found old new
-cut_prefix answers found at skip skipped old now new s item f lt is stands taken h = (
+cut_prefix : (answers : Answering) (found : List Found) (at : ℕ) (skip : Bool) (whys : List (Option FileFault)) (old now new : Option (List ℕ)) (s : FilesSoFar) (item : Found) (f : File) → at < length found → item ≡ get_or found at item
+    → (stands : Stands answers found at skip whys old now s) → IsTaken answers stands.files item f → AppendsPrefix old new (text_before_end (stands.files ++ f ∷ [])) → WritesFolderPrefix answers found old new
+cut_prefix answers found at skip whys old now new s item f lt is stands taken h = (
   take at found ++ item ∷ [],
   drop (at + 1) found,
   stands.files ++ f ∷ [],
-  skipped,
+  whys ++ None ∷ [],
   parted found at item lt is ∙ sym (append_assoc (take at found) (item ∷ []) (drop (at + 1) found)),
-  takes_one answers [] (take at found) item stands.files skipped f stands.takes taken,
+  takes_one answers [] (take at found) item stands.files whys f stands.takes taken,
   keeps stands.files f (whole stands.files old now s stands.took) taken.1,
   prefix_first old new (text_before_end (stands.files ++ f ∷ [])) (last_line (stands.files ++ f ∷ []) ++ line_feed ∷ []) h,
 )
@@ -203,22 +229,22 @@ cut_short : {reported : Fault} → (reported ≡ Memory) ⊎ (reported ≡ Open 
 cut_short (inl memory) = inl (inr memory)
 cut_short (inr opening) = inr opening
 
-pub stopped : (answers : Answering) (found : List Found) (at : ℕ) (skip : Bool) (skipped : ℕ) (old now new : Option (List ℕ)) (s : FilesSoFar) (item : Found) (reported : Fault) → at < length found → item ≡ get_or found at item
-    → (stands : Stands answers found at skip skipped old now s) → CutsFound answers stands.files old item new reported → IsSnapshotRunFault answers found skip old new reported
-stopped answers found at skip skipped old now new s item reported lt is stands (inl h) = inl (inl (inl h.0), cut_prefix answers found at skip skipped old now new s item h.1 lt is stands h.2 h.3)
-stopped answers found at skip skipped old now new s item reported lt is stands (inr h) = inl (cut_short h.0, kept_prefix answers found at skipped old new stands.files s now stands.takes stands.took h.1)
+pub stopped : (answers : Answering) (found : List Found) (at : ℕ) (skip : Bool) (whys : List (Option FileFault)) (old now new : Option (List ℕ)) (s : FilesSoFar) (item : Found) (reported : Fault) → at < length found → item ≡ get_or found at item
+    → (stands : Stands answers found at skip whys old now s) → CutsFound answers stands.files old item new reported → IsSnapshotRunFault answers found skip old new reported
+stopped answers found at skip whys old now new s item reported lt is stands (inl h) = inl (inl (inl h.0), cut_prefix answers found at skip whys old now new s item h.1 lt is stands h.2 h.3)
+stopped answers found at skip whys old now new s item reported lt is stands (inr h) = inl (cut_short h.0, kept_prefix answers found at whys old new stands.files s now stands.takes stands.took h.1)
 
--- out of memory once a file was left out
-pub lacking : (answers : Answering) (found : List Found) (at : ℕ) (skip : Bool) (skipped : ℕ) (old now new : Option (List ℕ)) (s next : FilesSoFar) (item : Found) (fault : FileFault) (reported : Fault) → reported ≡ Memory → item ≡ get_or found at item
-    → (stands : Stands answers found at skip skipped old now s) → AddsFound answers stands.files old item (Some fault) new next → IsSnapshotRunFault answers found skip old new reported
-lacking answers found at skip skipped old now new s next item fault reported memory is stands adds =
-    inl (inl (inr memory), kept_prefix answers found at skipped old new stands.files next new stands.takes adds.1 adds.1.text)
+-- out of memory between two files
+pub lacking : (answers : Answering) (found : List Found) (at : ℕ) (skip : Bool) (whys : List (Option FileFault)) (old now : Option (List ℕ)) (s : FilesSoFar) (reported : Fault) → reported ≡ Memory
+    → Stands answers found at skip whys old now s → IsSnapshotRunFault answers found skip old now reported
+lacking answers found at skip whys old now s reported memory stands =
+    inl (inl (inr memory), kept_prefix answers found at whys old now stands.files s now stands.takes stands.took stands.took.text)
 
-pub refused_first : (answers : Answering) (found : List Found) (at : ℕ) (skip : Bool) (skipped : ℕ) (old now new : Option (List ℕ)) (s next : FilesSoFar) (item : Found) (fault : FileFault) (reported : Fault) → at < length found → item ≡ get_or found at item → skip ≡ false
-    → (stands : Stands answers found at skip skipped old now s) → AddsFound answers stands.files old item (Some fault) new next → Names (name_of item) fault reported → IsSnapshotRunFault answers found skip old new reported
-refused_first answers found at skip skipped old now new s next item fault reported lt is never stands adds (inl memory) =
-    inl (inl (inr memory), kept_prefix answers found at skipped old new stands.files next new stands.takes adds.1 adds.1.text)
-refused_first answers found at skip skipped old now new s next item fault reported lt is never stands adds (inr named) =
+refused_first : (answers : Answering) (found : List Found) (at : ℕ) (skip : Bool) (whys : List (Option FileFault)) (old now new : Option (List ℕ)) (s next : FilesSoFar) (item : Found) (fault : FileFault) (reported : Fault) → at < length found → item ≡ get_or found at item → skip ≡ false
+    → (stands : Stands answers found at skip whys old now s) → AddsFound answers stands.files old item (Some fault) new next → Names (name_of item) fault reported → IsSnapshotRunFault answers found skip old new reported
+refused_first answers found at skip whys old now new s next item fault reported lt is never stands adds (inl memory) =
+    inl (inl (inr memory), kept_prefix answers found at whys old new stands.files next new stands.takes adds.1 adds.1.text)
+refused_first answers found at skip whys old now new s next item fault reported lt is never stands adds (inr named) =
     inr (
       named.0,
       named.1,
@@ -229,24 +255,33 @@ refused_first answers found at skip skipped old now new s next item fault report
         drop (at + 1) found,
         stands.files,
         parted found at item lt is,
-        subst (λ (n : ℕ). Takes answers [] (take at found) stands.files n) (stands.all never) stands.takes,
+        subst (λ (ws : List (Option FileFault)). Takes answers [] (take at found) stands.files ws) (stands.all never) stands.takes,
         subst (λ (x : FileFault). IsRefused answers stands.files item x) (sym named.3) adds.0,
         named.2,
         adds.1.text,
       ),
     )
 
+pub refused_now : (answers : Answering) (found : List Found) (at : ℕ) (skip : Bool) (whys : List (Option FileFault)) (why : Option FileFault) (old now new : Option (List ℕ)) (s next : FilesSoFar) (item : Found) (reported : Fault) → at < length found → item ≡ get_or found at item
+    → (stands : Stands answers found at skip whys old now s) → AddsFound answers stands.files old item why new next → (skip ≡ false) × ((fault : FileFault) × (why ≡ Some fault) × Names (name_of item) fault reported)
+    → IsSnapshotRunFault answers found skip old new reported
+refused_now answers found at skip whys why old now new s next item reported lt is stands adds h =
+    refused_first answers found at skip whys old now new s next item h.1.0 reported lt is h.0 stands (subst (λ (w : Option FileFault). AddsFound answers stands.files old item w new next) h.1.1 adds) h.1.2
+
 -- ---- the end
 
-all_taken : (answers : Answering) (found : List Found) (at : ℕ) (files : List File) (skipped : ℕ) → length found ≤ at → Takes answers [] (take at found) files skipped → Takes answers [] found files skipped
-all_taken answers found at files skipped le takes = subst (λ (fs : List Found). Takes answers [] fs files skipped) (take_all at found le) takes
+all_taken : (answers : Answering) (found : List Found) (at : ℕ) (files : List File) (whys : List (Option FileFault)) → length found ≤ at → Takes answers [] (take at found) files whys → Takes answers [] found files whys
+all_taken answers found at files whys le takes = subst (λ (fs : List Found). Takes answers [] fs files whys) (take_all at found le) takes
 
-pub ended : (answers : Answering) (found : List Found) (at : ℕ) (skip : Bool) (skipped : ℕ) (old now new : Option (List ℕ)) (s : FilesSoFar) → length found ≤ at
-    → (stands : Stands answers found at skip skipped old now s) → Appends old new (snapshot_text stands.files) → WritesFolder answers found skip old new skipped
-ended answers found at skip skipped old now new s le stands h =
-    (stands.files, all_taken answers found at stands.files skipped le stands.takes, stands.all, whole stands.files old now s stands.took, h)
+pub ended : (answers : Answering) (found : List Found) (at : ℕ) (skip : Bool) (whys : List (Option FileFault)) (old now new : Option (List ℕ)) (s : FilesSoFar) (r : Result Unit Fault) → length found ≤ at
+    → (stands : Stands answers found at skip whys old now s) → MatchResult r (λ done. Appends old new (snapshot_text stands.files)) (Cuts (snapshot_text stands.files) old new) → OnOk r (WritesFolder answers found skip whys old new)
+ended answers found at skip whys old now new s (Ok done) le stands h =
+    let takes = all_taken answers found at stands.files whys le stands.takes in
+    (stands.files, takes, (λ e. stands.all e ∙ ap none_left_out (take_all at found le)), names_are answers [] found stands.files whys takes, whole stands.files old now s stands.took, h)
+ended answers found at skip whys old now new s (Err f) le stands h = tt
 
-pub unended : (answers : Answering) (found : List Found) (at : ℕ) (skip : Bool) (skipped : ℕ) (old now new : Option (List ℕ)) (s : FilesSoFar) (reported : Fault) → length found ≤ at
-    → (stands : Stands answers found at skip skipped old now s) → Cuts (snapshot_text stands.files) old new reported → IsSnapshotRunFault answers found skip old new reported
-unended answers found at skip skipped old now new s reported le stands h =
-    inl (inl h.0, (found, [], stands.files, skipped, sym (append-nil found), all_taken answers found at stands.files skipped le stands.takes, whole stands.files old now s stands.took, h.1))
+pub unended : (answers : Answering) (found : List Found) (at : ℕ) (skip : Bool) (whys : List (Option FileFault)) (old now new : Option (List ℕ)) (s : FilesSoFar) (r : Result Unit Fault) → length found ≤ at
+    → (stands : Stands answers found at skip whys old now s) → MatchResult r (λ done. Appends old new (snapshot_text stands.files)) (Cuts (snapshot_text stands.files) old new) → IfErr r (IsSnapshotRunFault answers found skip old new)
+unended answers found at skip whys old now new s (Ok done) le stands h = tt
+unended answers found at skip whys old now new s (Err f) le stands h =
+    inl (inl h.0, (found, [], stands.files, whys, sym (append-nil found), all_taken answers found at stands.files whys le stands.takes, whole stands.files old now s stands.took, h.1))

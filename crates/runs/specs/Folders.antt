@@ -1,5 +1,5 @@
 -- The run that writes what was found in a folder as a snapshot.
-use Rattle.std.specs.Prelude.{◌≡◌, ◌⊎◌, ℕ, ◌+◌, Bool, false, List, [], ◌∷◌, ◌++◌, string_bytes, Option, Some, None}
+use Rattle.std.specs.Prelude.{◌≡◌, ◌⊎◌, ℕ, Bool, false, List, [], ◌∷◌, ◌++◌, map, string_bytes, Option, Some, None}
 use Rattle.std.specs.Prelude.{Result, Ok, Err}
 use Rattle.std.specs.Io.KnownBytes.{Appends}
 use Rattle.devices.specs.Devices.{AppendsPrefix}
@@ -68,26 +68,48 @@ IsRefused answers files found fault =
     ⊎ (((found.fault ≡ None) × answers (name_of found) (Err fault))
     ⊎ ((f : File) × IsFileOf answers found f × Breaks files f fault))
 
--- each of what was found is taken, as the next file after those before, or it isn't: n aren't
-abbrev pub Takes : Answering → List File → List Found → List File → ℕ → Type 0
-Takes answers before [] files skipped = (files ≡ before) × (skipped ≡ 0)
-Takes answers before (found ∷ more) files skipped =
-    ((f : File) × IsTaken answers before found f × Takes answers (before ++ f ∷ []) more files skipped)
-    ⊎ ((fault : FileFault) × (others : ℕ) × IsRefused answers before found fault × (skipped ≡ others + 1)
-    × Takes answers before more files others)
+-- Each of what was found is taken, as the next file after those before, or it isn't: `whys` has for each why not.
+abbrev pub Takes : Answering → List File → List Found → List File → List (Option FileFault) → Type 0
+Takes answers before [] files [] = files ≡ before
+Takes answers before (found ∷ more) files (None ∷ whys) =
+    (f : File) × IsTaken answers before found f × Takes answers (before ++ f ∷ []) more files whys
+Takes answers before (found ∷ more) files (Some fault ∷ whys) =
+    IsRefused answers before found fault × Takes answers before more files whys
+Takes answers before found files whys = ⊥
 
--- the snapshot of what was taken was written: nothing was left out where that isn't allowed
-abbrev pub WritesFolder : Answering → List Found → Bool → Option (List ℕ) → Option (List ℕ) → ℕ → Type 0
-WritesFolder answers found skip old new skipped = (files : List File) × Takes answers [] found files skipped
-    × (skip ≡ false → skipped ≡ 0)
+-- nothing of what was found is left out
+abbrev pub none_left_out : List Found → List (Option FileFault)
+none_left_out found = map (λ one. None) found
+
+-- the names of what isn't left out
+abbrev pub names_taken : List Found → List (Option FileFault) → List (List ℕ)
+names_taken (found ∷ more) (None ∷ whys) = name_of found ∷ names_taken more whys
+names_taken (found ∷ more) (Some fault ∷ whys) = names_taken more whys
+names_taken found whys = []
+
+-- The snapshot of what was taken was written: nothing was left out where that isn't allowed. The names in it are those
+-- of what was found that isn't left out.
+abbrev pub WritesFolder : Answering → List Found → Bool → List (Option FileFault) → Option (List ℕ)
+    → Option (List ℕ) → Type 0
+WritesFolder answers found skip whys old new = (files : List File) × Takes answers [] found files whys
+    × (skip ≡ false → whys ≡ none_left_out found)
+    × (map (λ f. f.name) files ≡ names_taken found whys)
     × IsSnapshotText (snapshot_text files) files
     × Appends old new (snapshot_text files)
 
+-- this became of the first of what was found: nothing was left out where that isn't allowed
+abbrev pub LeavesOut : Answering → List Found → Bool → List (Option FileFault) → Type 0
+LeavesOut answers found skip whys = (first rest : List Found) × (files : List File)
+    × (found ≡ first ++ rest)
+    × Takes answers [] first files whys
+    × (skip ≡ false → whys ≡ none_left_out first)
+
 -- a prefix was written of the snapshot of what was taken of the first of what was found
 abbrev pub WritesFolderPrefix : Answering → List Found → Option (List ℕ) → Option (List ℕ) → Type 0
-WritesFolderPrefix answers found old new = (first rest : List Found) × (files : List File) × (skipped : ℕ)
+WritesFolderPrefix answers found old new = (first rest : List Found) × (files : List File)
+    × (whys : List (Option FileFault))
     × (found ≡ first ++ rest)
-    × Takes answers [] first files skipped
+    × Takes answers [] first files whys
     × IsSnapshotText (snapshot_text files) files
     × AppendsPrefix old new (snapshot_text files)
 
@@ -96,7 +118,7 @@ abbrev pub StopsBefore : Answering → List Found → Option (List ℕ) → Opti
 StopsBefore answers found old new name fault = (first : List Found) × (refused : Found) × (rest : List Found)
     × (files : List File)
     × (found ≡ first ++ refused ∷ rest)
-    × Takes answers [] first files 0
+    × Takes answers [] first files (none_left_out first)
     × IsRefused answers files refused fault
     × (name ≡ shown_name (name_of refused))
     × Appends old new (text_before_end files)

@@ -66,10 +66,4 @@ pub trait Folder {
     /// Reads the file of this name, or says why it can't be taken.
     fn read(&self, name: &str) -> Result<Result<Contents, FileFault>, Unanswered>
         ensures { IfOk result (answers self.now name.now) };
-
-    /// Hears of what is left out of the snapshot, and why. An `Err` is out of memory; else what is written doesn't
-    /// depend on it.
-    fn leave_out(&self, _name: &str, _fault: FileFault) -> Result<(), AllocError> {
-        Ok(())
-    }
 }

@@ -1,13 +1,15 @@
 //! The snapshot of what was found in a folder.
 
-ghost use Rattle.std.specs.Prelude.{◌≡◌, ◌-◌, ◌<◌, ◌^◌, [], MatchResult, IfOk, IfErr};
+ghost use Rattle.std.specs.Prelude.{◌≡◌, ◌-◌, ◌<◌, ◌^◌, [], Some, None, false, MatchResult, IfOk, IfErr, OnOk};
+ghost use Rattle.faults.specs.declared.folder_fault.FileFault.{FileFault as AFileFault};
 ghost use Rattle.paths.specs.Snapshots.{text_before_end, snapshot_text};
 ghost use Rattle.snapshots.specs.Keeping.{a_file};
 ghost use Rattle.snapshots.specs.Writers.{Took};
 ghost use Rattle.std.specs.Io.KnownBytes.{Appends};
 ghost use Rattle.devices.specs.Devices.{CanFail, CountsBy};
 ghost use Rattle.runs.specs.Folders.{AddsFile, AddsFound, AfterTaking, Cuts, CutsFile, CutsFound, Names, refusal};
-ghost use Rattle.runs.specs.Folders.{IsSnapshotRunFault, WritesFolder, output_failures, unwritten};
+ghost use Rattle.runs.specs.Folders.{IsSnapshotRunFault, LeavesOut, WritesFolder, name_of, output_failures};
+ghost use Rattle.runs.specs.Folders.{unwritten};
 
 use crate::folder::{Contents, Folder, Found};
 use devices::Output;
@@ -125,41 +127,52 @@ fn refused(alloc: Global, name: &str, fault: FileFault) -> Fault
     }
 }
 
+/// Refuses what was found, where it can't be taken and nothing is to be left out.
+fn refuse(alloc: Global, found: &Found, why: Option<FileFault>, skip: bool) -> Result<(), Fault>
+    ensures ok { OnOk result (skip ≡ false → why ≡ None) }
+    ensures fault { IfErr result (λ f. (skip ≡ false)
+        × ((fault : AFileFault) × (why ≡ Some fault) × Names (name_of found.now) fault f)) }
+{
+    match why {
+        Some(fault) if !skip => Err(refused(alloc, found.name.as_str(), fault)),
+        _ => Ok(()),
+    }
+}
+
 /// Writes the snapshot of what was found in a folder, in the order given, which is to be that of the names' bytes. One
-/// file is in memory at a time. What can't be taken is a fault, or left out where that is asked for; the folder hears
-/// of it. How many were left out.
+/// file is in memory at a time. What can't be taken is a fault, or left out where that is asked for. `whys` is room: it
+/// gets for each of what was found why it was left out, or nothing where it was taken.
 ///
 /// # Errors
 ///
 /// `Folder` with the first that can't be taken, where nothing is to be left out: the files before it stand, without a
 /// last line. `Write` of the output where it failed, `Memory`, and `Open` of the folder where it says nothing of a file
-/// since too many are open: a prefix stands. No other fault.
+/// since too many are open: a prefix stands. No other fault. `whys` has what became of the first of what was found.
 pub fn run_snapshot<F: Folder, W: Write>(
     alloc: Global,
     folder: &F,
     found: &[Found],
     skip: bool,
+    whys: &mut Vec<Option<FileFault>>,
     output: &mut Output<W>,
-) -> Result<usize, Fault>
+) -> Result<(), Fault>
     requires { CanFail output.old }
-    ensures ok { IfOk result
-        (WritesFolder (F.answers folder.now) found.now skip output.old.bytes output.new.bytes) }
+    ensures ok { OnOk result (WritesFolder
+        (F.answers folder.now) found.now skip whys.new.items output.old.bytes output.new.bytes) }
     ensures fault { IfErr result
         (IsSnapshotRunFault (F.answers folder.now) found.now skip output.old.bytes output.new.bytes) }
+    ensures left { LeavesOut (F.answers folder.now) found.now skip whys.new.items }
     // The output is blamed only where it failed in this call.
     ensures writes { CountsBy output_failures output.old.failures output.new.failures result }
 {
+    whys.clear();
     let mut writer = begin(alloc, output)?;
-    let mut skipped = 0;
     for one in found {
-        if let Some(fault) = add_found(folder, &mut writer, output, one)? {
-            if !skip {
-                return Err(refused(alloc, one.name.as_str(), fault));
-            }
-            folder.leave_out(one.name.as_str(), fault)?;
-            skipped += 1;
-        }
+        let why = add_found(folder, &mut writer, output, one)?;
+        refuse(alloc, one, why, skip)?;
+        let Ok(()) = whys.push(why) else {
+            return Err(Fault::Memory);
+        };
     }
-    finish(writer, output)?;
-    Ok(skipped)
+    finish(writer, output)
 }

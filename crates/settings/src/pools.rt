@@ -84,7 +84,8 @@ fn pool_number(pools: &Array, name: &str) -> Option<usize>
 
 /// Sees that a pool has a name that no pool before it has.
 fn own_name(pools: &Array, number: usize, name: Option<&Value>) -> Result<(), ConfigFault>
-    ensures { IsAnswer (own_name (array_view pools.now) number (option_map (λ v. view v.now) name.entry)) result }
+    ensures { IsAnswer
+        (own_name (array_view pools.now) number (option_map (λ v. view v.now) name.entry)) result }
 {
     let Some(value) = name else {
         return Err(ConfigFault::shape(Key::PoolName));
@@ -100,7 +101,8 @@ fn own_name(pools: &Array, number: usize, name: Option<&Value>) -> Result<(), Co
 
 /// The servers of the pool of this number.
 fn pool_in(pools: &Array, number: usize, pool: &Value) -> Result<u64, ConfigFault>
-    ensures servers { IsAnswer (pool_in (array_view pools.now) number (as_table (view pool.now))) result }
+    ensures servers { IsAnswer
+        (pool_in (array_view pools.now) number (as_table (view pool.now))) result }
     ensures within { IfOk result (λ n. IsOfEach (row_of Key.PoolServers).kind n) }
 {
     let Some(table) = pool.as_table() else {

@@ -8,7 +8,8 @@ ghost use Rattle.toml.specs.Data.{get_member};
 ghost use Rattle.toml.specs.View.{array_view, table_view, view};
 ghost use Rattle.cost_model.specs.Services.{MAX_DELAY};
 ghost use Rattle.settings.specs.Keys.{IsOfEach, name_of, row_of};
-ghost use Rattle.settings.specs.WrittenOut.{hexadecimal, items_text, named_text, numbers_text, own_number, own_text, pool_text, quoted, quoted_char};
+ghost use Rattle.settings.specs.WrittenOut.{hexadecimal, items_text, named_text, numbers_text, own_number, own_text};
+ghost use Rattle.settings.specs.WrittenOut.{pool_text, quoted, quoted_char};
 ghost use Rattle.settings.specs.WrittenOut.{route_text, table_text, tables_text, text_in};
 
 use crate::Key;
@@ -102,7 +103,8 @@ fn text_in(value: Option<&Value>) -> &str
 
 /// Writes the text at a key of a table below its comment.
 fn write_text(alloc: Global, text: &mut String, table: &Table, key: Key) -> Result<(), AllocError>
-    ensures { OnOk result (string_bytes text.new ≡ string_bytes text.old ++ own_text (table_view table.now) key) }
+    ensures { OnOk result
+        (string_bytes text.new ≡ string_bytes text.old ++ own_text (table_view table.now) key) }
 {
     write_name(text, key)?;
     write_quoted(alloc, text, text_in(member_of(table, key)))?;
@@ -112,7 +114,8 @@ fn write_text(alloc: Global, text: &mut String, table: &Table, key: Key) -> Resu
 /// Writes a pool.
 #[tactic(auto, unfolding(crate::specs::WrittenOut::pool_text))]
 fn write_pool(alloc: Global, text: &mut String, table: &Table) -> Result<(), AllocError>
-    ensures { OnOk result (string_bytes text.new ≡ string_bytes text.old ++ pool_text (table_view table.now)) }
+    ensures { OnOk result
+        (string_bytes text.new ≡ string_bytes text.old ++ pool_text (table_view table.now)) }
 {
     let name = Key::Pool.name();
     write!(text, "\n[[{name}]]\n")?;

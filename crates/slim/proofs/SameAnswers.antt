@@ -3,7 +3,7 @@ use Rattle.std.proofs.Common.{◌≡◌, ℕ, ◌+◌, ◌/◌, ◌==◌, Bool, 
 use Rattle.std.specs.List.{list_any}
 use Rattle.std.proofs.lemmas.List.{length-map, map-append}
 use Rattle.std.proofs.lemmas.List.Sums.{sum_by-cons}
-use Rattle.admission.specs.Reference.{Offer, decide, decided}
+use Rattle.admission.specs.Reference.{Offer, decide, decided, pools_of}
 use Rattle.admission.specs.After.{outlook}
 use Rattle.cost_model.specs.Reference.{charge_on, route_of}
 use Rattle.paths.specs.Reference.{asked, outcome}
@@ -135,6 +135,7 @@ summary_same q files t xs =
       bypassed = bypassed_same q xs i;
       samples = samples_of (station_for t) (offers_same q files t xs i);
       tiers = tallies_of (station_for t) (offers_same q files t xs i);
+      pools = pools_of (station_for t) (offers_same q files t xs i);
     }
 
 first_same : (q : Queries) (files : List File) (t : Terms) (earlier : List Arrival) (offers : List Offer) → first_offered files t (map (kept_arrival q) earlier) offers ≡ first_offered files t earlier offers

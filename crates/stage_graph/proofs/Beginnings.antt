@@ -10,7 +10,7 @@ prefix_whole (x ∷ xs) [] p le = absurd (cc (p.1))
 prefix_whole (x ∷ xs) (y ∷ ys) p le =
     let rest = prefix_whole xs ys (p.0, cc (p.1)) (omega arith) in cc (p.1, rest)
 
--- what stands in a beginning stands in the whole, at the same place
+-- what is in a beginning is in the whole, at the same place
 prefix_get : {A : Type 0} (xs ys : List A) (k : ℕ) → IsPrefix xs ys → k < length xs → slice_get xs k ≡ slice_get ys k
 prefix_get [] ys k p h = absurd (omega arith)
 prefix_get (x ∷ xs) [] k p h = absurd (cc (p.1))

@@ -3,7 +3,7 @@ use Rattle.std.proofs.Common.{◌≡◌, ℕ, ◌+◌, Bool, true, false, cond, 
 use Rattle.std.specs.Option.{is_none}
 use Rattle.std.proofs.lemmas.Bool.{eqb-true}
 use Rattle.stage_graph.specs.Layouts.{Layout, stage_at, capacity_at, is_last}
-use Rattle.stage_graph.specs.Floors.{State, queue_at, hand_at, has_left, is_nil, is_at, is_drained, feed_cause, take_cause, give_cause, back_cause, leave_cause, halt_cause}
+use Rattle.stage_graph.specs.Floors.{State, queue_at, worker_slot_at, has_left, is_nil, is_at, is_drained, feed_cause, take_cause, give_cause, back_cause, leave_cause, halt_cause}
 use Rattle.stage_graph.specs.declared.event.Cause.{Cause}
 use Rattle.stage_graph.specs.declared.event.Cause.TheVariants.{Full, NotHeld}
 
@@ -30,18 +30,18 @@ at_is (Some m) n e = ap Some (eqb-true m n e)
 pub record MayFeed (p : Layout) (s : State) : Type 0 where
   pub running : s.stopped ≡ false
   pub some : is_nil s.backlog ≡ false
-  pub room : nat_le (capacity_at p 0) (length (queue_at s 0)) ≡ false
+  pub not_full : nat_le (capacity_at p 0) (length (queue_at s 0)) ≡ false
 
 pub may_feed : (p : Layout) (s : State) → feed_cause p s ≡ None → MayFeed p s
 may_feed p s h =
     let a = cond_none _ _ _ h in
     let b = cond_none _ _ _ a.1 in
     let c = cond_none _ _ _ b.1 in
-    record { running = a.0; some = b.0; room = c.0 }
+    record { running = a.0; some = b.0; not_full = c.0 }
 
 pub record MayTake (p : Layout) (s : State) (w : ℕ) : Type 0 where
   pub here : has_left s w ≡ false
-  pub free : hand_at s w ≡ None
+  pub free : worker_slot_at s w ≡ None
   pub running : s.stopped ≡ false
   pub some : is_nil (queue_at s (stage_at p w)) ≡ false
 
@@ -53,7 +53,7 @@ may_take p s w h =
     let d = cond_none _ _ _ c.1 in
     record { here = a.0; free = not_some _ b.0; running = c.0; some = d.0 }
 
--- a give that goes to the next stage has room there
+-- a give that goes to the next stage finds its queue not full
 pub may_give : (p : Layout) (s : State) (w n steps : ℕ) → give_cause p s w n steps ≡ None → is_last p (stage_at p w) ≡ false
     → nat_le (capacity_at p (stage_at p w + 1)) (length (queue_at s (stage_at p w + 1))) ≡ false
 may_give p s w n steps h more = (cond_none _ Full None (of_false _ _ _ more (of_true _ _ h))).0
@@ -66,12 +66,12 @@ may_give p s w n steps h more = (cond_none _ Full None (of_false _ _ _ more (of_
     of_false true a o e h = absurd (cc)
     of_false false a o e h = h
 
-pub may_back : (s : State) (w n : ℕ) → back_cause s w n ≡ None → is_at (hand_at s w) n ≡ true
+pub may_back : (s : State) (w n : ℕ) → back_cause s w n ≡ None → is_at (worker_slot_at s w) n ≡ true
 may_back s w n h = none_cond _ _ h
 
 pub record MayLeave (p : Layout) (s : State) (w : ℕ) : Type 0 where
   pub here : has_left s w ≡ false
-  pub free : hand_at s w ≡ None
+  pub free : worker_slot_at s w ≡ None
   pub drained : (s.stopped || is_drained p s (stage_at p w)) ≡ true
 
 pub may_leave : (p : Layout) (s : State) (w : ℕ) → leave_cause p s w ≡ None → MayLeave p s w

@@ -43,7 +43,7 @@ before_take : Layout → ℕ → ℕ → Weights
 before_take p k x = record {
   backlog = one_at x;
   queue = λ j m. cond (nat_le j k) (one_at x m) 0;
-  hand = λ w m. cond (nat_lt (stage_at p w) k) (one_at x m) 0;
+  worker_slot = λ w m. cond (nat_lt (stage_at p w) k) (one_at x m) 0;
   done = λ m. 0;
   returned = λ m. 0;
   worker = 0;
@@ -86,7 +86,7 @@ after_take : Layout → ℕ → ℕ → Weights
 after_take p k x = record {
   backlog = λ m. 0;
   queue = λ j m. cond (nat_lt k j) (one_at x m) 0;
-  hand = λ w m. cond (nat_le k (stage_at p w)) (one_at x m) 0;
+  worker_slot = λ w m. cond (nat_le k (stage_at p w)) (one_at x m) 0;
   done = one_at x;
   returned = λ m. 0;
   worker = 0;
@@ -137,7 +137,7 @@ taken_just_once p n h plan legal done k x in-p below =
 
 -- a number weighs 1 until it is fed
 before_feed : ℕ → Weights
-before_feed x = record { backlog = one_at x; queue = λ j m. 0; hand = λ w m. 0; done = λ m. 0; returned = λ m. 0; worker = 0; running = 0 }
+before_feed x = record { backlog = one_at x; queue = λ j m. 0; worker_slot = λ w m. 0; done = λ m. 0; returned = λ m. 0; worker = 0; running = 0 }
 
 cond-zero : (b : Bool) → cond {A = ℕ} b 0 0 ≡ 0
 cond-zero true = refl
@@ -162,7 +162,7 @@ fed_once p n h plan legal x below =
 
 -- a number weighs 1 once it is fed
 after_feed : ℕ → Weights
-after_feed x = record { backlog = λ m. 0; queue = λ j. one_at x; hand = λ w. one_at x; done = one_at x; returned = λ m. 0; worker = 0; running = 0 }
+after_feed x = record { backlog = λ m. 0; queue = λ j. one_at x; worker_slot = λ w. one_at x; done = one_at x; returned = λ m. 0; worker = 0; running = 0 }
 
 feed_gains : (p : Layout) (x : ℕ) (s : State) (e : Event) → is_allowed p s e ≡ true → gained (after_feed x) p e ≤ lost (after_feed x) p s e + is_feed x e
 unfolding lost gained after_feed
@@ -200,7 +200,7 @@ before_give : Layout → ℕ → ℕ → Weights
 before_give p k x = record {
   backlog = one_at x;
   queue = λ j m. cond (nat_le j k) (one_at x m) 0;
-  hand = λ w m. cond (nat_le (stage_at p w) k) (one_at x m) 0;
+  worker_slot = λ w m. cond (nat_le (stage_at p w) k) (one_at x m) 0;
   done = λ m. 0;
   returned = λ m. 0;
   worker = 0;
@@ -236,7 +236,7 @@ after_give : Layout → ℕ → ℕ → Weights
 after_give p k x = record {
   backlog = λ m. 0;
   queue = λ j m. cond (nat_lt k j) (one_at x m) 0;
-  hand = λ w m. cond (nat_lt k (stage_at p w)) (one_at x m) 0;
+  worker_slot = λ w m. cond (nat_lt k (stage_at p w)) (one_at x m) 0;
   done = one_at x;
   returned = λ m. 0;
   worker = 0;

@@ -6,9 +6,9 @@ use Rattle.std.proofs.lemmas.Bool.{ltb-true, ltb-false, lt-ltb, leb-true, leb-fa
 use Rattle.std.proofs.lemmas.Bool.Decides.{eqb_tells}
 use Rattle.std.proofs.lemmas.List.{get_or-set_same, get_or-set_other, get_or-replicate}
 use Rattle.stage_graph.specs.Layouts.{Layout, IsPlan, stages, workers, stage_at, cut_at, is_last}
-use Rattle.stage_graph.specs.Floors.{State, queue_at, hand_at, has_left, is_nil, idle_before, is_drained, opening, is_allowed, after, after_all, is_legal, standing, is_legal_from_opening, all_true, all_left, all_done}
+use Rattle.stage_graph.specs.Floors.{State, queue_at, worker_slot_at, has_left, is_nil, idle_before, is_drained, opening, is_allowed, after, after_all, is_legal, standing, is_legal_from_opening, all_true, all_left, all_done}
 use Rattle.stage_graph.specs.Counts.{one_at}
-use Rattle.stage_graph.proofs.Weights.{sum_from, of_hand, of_slot, of_flag, total, of_number}
+use Rattle.stage_graph.proofs.Weights.{sum_from, of_worker_slot, of_slot, of_flag, total, of_number}
 use Rattle.stage_graph.specs.declared.event.Event.{Event}
 use Rattle.stage_graph.specs.declared.event.Event.TheVariants.{Feed, Take, Give, Back, Leave, Halt}
 use Rattle.stage_graph.proofs.Histories.{and_left, and_right, and_both}
@@ -17,14 +17,14 @@ use Rattle.stage_graph.proofs.Moves.{give_known}
 use Rattle.stage_graph.proofs.Sound.{IsPlaced, IsPlaced-after, IsPlaced-opening, IsPlaced-standing, by_bool}
 use Rattle.std.proofs.lemmas.List.Sums.{sum_by-cons}
 
--- no number in the backlog, in a queue up to stage k, or in a hand of a stage before k
+-- no number in the backlog, in a queue up to stage k, or in a slot of a stage before k
 record IsDrained (p : Layout) (s : State) (k : ℕ) : Type 0 where
   backlog : s.backlog ≡ []
   queues : (j : ℕ) → j ≤ k → queue_at s j ≡ []
-  hands : (v : ℕ) → v < workers p → stage_at p v < k → hand_at s v ≡ None
+  worker_slots : (v : ℕ) → v < workers p → stage_at p v < k → worker_slot_at s v ≡ None
 
 record IsSettled (p : Layout) (s : State) : Type 0 where
-  idle : (w : ℕ) → w < workers p → has_left s w ≡ true → hand_at s w ≡ None
+  idle : (w : ℕ) → w < workers p → has_left s w ≡ true → worker_slot_at s w ≡ None
   kept : s.stopped ≡ false → s.returned ≡ []
   drained : s.stopped ≡ false → (w : ℕ) → w < workers p → has_left s w ≡ true → IsDrained p s (stage_at p w)
 
@@ -51,26 +51,26 @@ queues_nil (q ∷ qs) (suc k) (suc j) h l = queues_nil qs k j (of_rest q qs k h)
         let e : k + 1 ≡ suc k = omega arith in
         rw e u
 
-hands_idle : (k : ℕ) (ts : List ℕ) (hs : List (Option ℕ)) (v : ℕ) → idle_before k ts hs ≡ true → v < length ts → get_or ts v 0 < k → get_or hs v None ≡ None
-hands_idle k [] hs v h l b = absurd (omega arith)
-hands_idle k (t ∷ ts) [] v h l b = refl
-hands_idle k (t ∷ ts) (x ∷ hs) zero h l b = none_is x (second (nat_le k t) (is_none x) (and_left _ _ h) (λ e. omega (arith, leb-true k t e)))
+worker_slots_idle : (k : ℕ) (ts : List ℕ) (hs : List (Option ℕ)) (v : ℕ) → idle_before k ts hs ≡ true → v < length ts → get_or ts v 0 < k → get_or hs v None ≡ None
+worker_slots_idle k [] hs v h l b = absurd (omega arith)
+worker_slots_idle k (t ∷ ts) [] v h l b = refl
+worker_slots_idle k (t ∷ ts) (x ∷ hs) zero h l b = none_is x (second (nat_le k t) (is_none x) (and_left _ _ h) (λ e. omega (arith, leb-true k t e)))
   where
     second : (a c : Bool) → (a || c) ≡ true → (a ≡ true → ⊥) → c ≡ true
     second true c h n = absurd (n refl)
     second false c h n = h
-hands_idle k (t ∷ ts) (x ∷ hs) (suc v) h l b = hands_idle k ts hs v (and_right _ _ h) (omega arith) b
+worker_slots_idle k (t ∷ ts) (x ∷ hs) (suc v) h l b = worker_slots_idle k ts hs v (and_right _ _ h) (omega arith) b
 
 IsDrained-from : (p : Layout) (s : State) (k : ℕ) → is_drained p s k ≡ true → IsDrained p s k
 IsDrained-from p s k h =
     let a = is_nil s.backlog in
     let b = list_all is_nil (take (k + 1) s.queues) in
-    let d = idle_before k p.posts s.hands in
+    let d = idle_before k p.posts s.worker_slots in
     let r : (b && d) ≡ true = and_right a (b && d) h in
     record {
       backlog = nil_is s.backlog (and_left a (b && d) h);
       queues = λ j l. queues_nil s.queues k j (and_left b d r) l;
-      hands = λ v l i. hands_idle k p.posts s.hands v (and_right b d r) l i;
+      worker_slots = λ v l i. worker_slots_idle k p.posts s.worker_slots v (and_right b d r) l i;
     }
 
 away_from : (w v : ℕ) (hs : List (Option ℕ)) → get_or hs v None ≡ None → w < length hs → get_or (set hs w None) v None ≡ None
@@ -80,7 +80,7 @@ away_from w v hs h i =
       | inr away ↦ get_or-set_other hs w v None None (away.1) ∙ h
     ]
 
--- where a queue of a later stage changes, and a hand is emptied, what was drained stays so
+-- where a queue of a later stage changes, and a slot is emptied, what was drained stays so
 drained_stays : (p : Layout) (s : State) (k j : ℕ) (q : List ℕ) → k < j → IsDrained p s k → (i : ℕ) → i ≤ k → get_or (set s.queues j q) i [] ≡ []
 drained_stays p s k j q later d i l = get_or-set_other s.queues j i q [] (λ e. omega arith) ∙ d.queues i l
 
@@ -103,7 +103,7 @@ IsSettled-after p n s (Take v x) plan placed settled ok =
     record {
       idle = λ w known left. elim (eqb_tells w v) [
         | inl at ↦ absurd (let t : has_left s w ≡ false = rw (at.1) may.here in let u : true ≡ false = sym left ∙ t in cc)
-        | inr away ↦ get_or-set_other s.hands v w (Some x) None (away.1) ∙ settled.idle w known left
+        | inr away ↦ get_or-set_other s.worker_slots v w (Some x) None (away.1) ∙ settled.idle w known left
       ];
       kept = settled.kept;
       drained = λ runs w known left.
@@ -112,7 +112,7 @@ IsSettled-after p n s (Take v x) plan placed settled ok =
           record {
             backlog = d.backlog;
             queues = drained_stays p s (stage_at p w) (stage_at p v) _ later d;
-            hands = λ u in-u early. get_or-set_other s.hands v u (Some x) None (λ e. let f : stage_at p u ≡ stage_at p v = ap (stage_at p) e in omega arith) ∙ d.hands u in-u early;
+            worker_slots = λ u in-u early. get_or-set_other s.worker_slots v u (Some x) None (λ e. let f : stage_at p u ≡ stage_at p v = ap (stage_at p) e in omega arith) ∙ d.worker_slots u in-u early;
           };
     }
   where
@@ -121,25 +121,25 @@ IsSettled-after p n s (Take v x) plan placed settled ok =
 IsSettled-after p n s (Give v x) plan placed settled ok =
     let none = none_is _ (and_right (nat_lt v (workers p)) _ ok) in
     let known-v = ltb-true v (workers p) (and_left _ _ ok) in
-    let held : hand_at s v ≡ Some x = at_is _ x ((give_known p s v x (cut_at p (stage_at p v)) none).0) in
+    let held : worker_slot_at s v ≡ Some x = at_is _ x ((give_known p s v x (cut_at p (stage_at p v)) none).0) in
     either_way (is_last p (stage_at p v)) _ _
     (record {
-      idle = λ w known left. away_from v w s.hands (settled.idle w known left) (omega (arith, placed.sized.hands));
+      idle = λ w known left. away_from v w s.worker_slots (settled.idle w known left) (omega (arith, placed.sized.worker_slots));
       kept = settled.kept;
       drained = λ runs w known left.
           let d = settled.drained runs w known left in
-          record { backlog = d.backlog; queues = d.queues; hands = λ u in-u early. away_from v u s.hands (d.hands u in-u early) (omega (arith, placed.sized.hands)) };
+          record { backlog = d.backlog; queues = d.queues; worker_slots = λ u in-u early. away_from v u s.worker_slots (d.worker_slots u in-u early) (omega (arith, placed.sized.worker_slots)) };
     })
     (record {
-      idle = λ w known left. away_from v w s.hands (settled.idle w known left) (omega (arith, placed.sized.hands));
+      idle = λ w known left. away_from v w s.worker_slots (settled.idle w known left) (omega (arith, placed.sized.worker_slots));
       kept = settled.kept;
       drained = λ runs w known left.
           let d = settled.drained runs w known left in
-          let later : stage_at p w < stage_at p v + 1 = after_hand (stage_at p w) v x d known-v held in
+          let later : stage_at p w < stage_at p v + 1 = after_worker_slot (stage_at p w) v x d known-v held in
           record {
             backlog = d.backlog;
             queues = drained_stays p s (stage_at p w) (stage_at p v + 1) _ later d;
-            hands = λ u in-u early. away_from v u s.hands (d.hands u in-u early) (omega (arith, placed.sized.hands));
+            worker_slots = λ u in-u early. away_from v u s.worker_slots (d.worker_slots u in-u early) (omega (arith, placed.sized.worker_slots));
           };
     })
   where
@@ -147,13 +147,13 @@ IsSettled-after p n s (Give v x) plan placed settled ok =
     either_way true t u h k = h
     either_way false t u h k = k
 
-    after_hand : (k v x : ℕ) → IsDrained p s k → v < workers p → hand_at s v ≡ Some x → k < stage_at p v + 1
-    after_hand k v x d known held =
-        by_bool (λ b. k < stage_at p v + 1) (nat_lt (stage_at p v) k) (λ t. absurd (let e : None ≡ Some x = sym (d.hands v known (ltb-true (stage_at p v) k t)) ∙ held in cc)) (λ f. omega (arith, ltb-false (stage_at p v) k f))
+    after_worker_slot : (k v x : ℕ) → IsDrained p s k → v < workers p → worker_slot_at s v ≡ Some x → k < stage_at p v + 1
+    after_worker_slot k v x d known held =
+        by_bool (λ b. k < stage_at p v + 1) (nat_lt (stage_at p v) k) (λ t. absurd (let e : None ≡ Some x = sym (d.worker_slots v known (ltb-true (stage_at p v) k t)) ∙ held in cc)) (λ f. omega (arith, ltb-false (stage_at p v) k f))
 IsSettled-after p n s (Back v x) plan placed settled ok =
     let known-v = ltb-true v (workers p) (and_left _ _ ok) in
     record {
-      idle = λ w known left. away_from v w s.hands (settled.idle w known left) (omega (arith, placed.sized.hands));
+      idle = λ w known left. away_from v w s.worker_slots (settled.idle w known left) (omega (arith, placed.sized.worker_slots));
       kept = λ runs. absurd (cc);
       drained = λ runs w known left. absurd (cc);
     }
@@ -172,7 +172,7 @@ IsSettled-after p n s (Leave v) plan placed settled ok =
     }
   where
     same : {k : ℕ} → IsDrained p s k → IsDrained p (after p s (Leave v)) k
-    same d = record { backlog = d.backlog; queues = d.queues; hands = d.hands }
+    same d = record { backlog = d.backlog; queues = d.queues; worker_slots = d.worker_slots }
 IsSettled-after p n s Halt plan placed settled ok =
     record { idle = settled.idle; kept = λ runs. absurd (cc); drained = λ runs w known left. absurd (cc) }
 
@@ -225,14 +225,14 @@ flag_zero true = refl
 flag_zero false = refl
 
 -- a number that is nowhere else is done
-done_from_place : (s : State) (x : ℕ) → s.backlog ≡ [] → ((j : ℕ) → j < length s.queues → queue_at s j ≡ []) → ((v : ℕ) → v < length s.hands → hand_at s v ≡ None) → s.returned ≡ []
+done_from_place : (s : State) (x : ℕ) → s.backlog ≡ [] → ((j : ℕ) → j < length s.queues → queue_at s j ≡ []) → ((v : ℕ) → v < length s.worker_slots → worker_slot_at s v ≡ None) → s.returned ≡ []
     → total (of_number x) s ≡ 1 → get_or s.done x false ≡ true
 unfolding total
-done_from_place s x backlog queues hands returned one =
+done_from_place s x backlog queues worker_slots returned one =
     let v = of_number x in
     let a : sum_by v.backlog s.backlog ≡ 0 = rw backlog refl in
     let b = sum_from-zero (λ k q. sum_by (v.queue k) q) 0 s.queues [] (λ j i. rw (queues j i) refl) in
-    let c = sum_from-zero (λ w h. of_hand (v.hand w) h) 0 s.hands None (λ j i. rw (hands j i) refl) in
+    let c = sum_from-zero (λ w h. of_worker_slot (v.worker_slot w) h) 0 s.worker_slots None (λ j i. rw (worker_slots j i) refl) in
     let d : sum_by v.returned s.returned ≡ 0 = rw returned refl in
     let e : sum_by (of_flag v.worker) s.left ≡ 0 = flags_zero s.left in
     let f : of_flag v.running s.stopped ≡ 0 = flag_zero s.stopped in
@@ -264,6 +264,6 @@ all_done_from_left p n h plan legal left runs =
     all_true-from s.done (λ x i.
     done_from_place s x d.backlog
     (λ j q. d.queues j (omega (arith, last.2, placed.sized.queues, plan.some)))
-    (λ v q. let known : v < workers p = omega (arith, placed.sized.hands) in settled.idle v known (gone v known))
+    (λ v q. let known : v < workers p = omega (arith, placed.sized.worker_slots) in settled.idle v known (gone v known))
     (settled.kept runs)
     (let below : x < n = omega (arith, placed.sized.done) in placed.places x ∙ ap (λ b. cond b 1 0) (lt-ltb x n below)))

@@ -16,7 +16,7 @@ pub mod Capacities
 pub mod Laws
 pub mod Counting
 pub mod ByNumber
-mod Lotting
+mod Chunking
 pub mod Beginnings
 pub mod Entries
-pub mod Crewing
+pub mod Helping

@@ -5,7 +5,7 @@ use Rattle.std.proofs.lemmas.List.{map-append, get_or_read}
 use Rattle.std.proofs.Math.Dec.{eqb-suc-zero}
 use Rattle.std.proofs.lemmas.Bool.{lt-ltb, eqb-true, eqb-false}
 use Rattle.stage_graph.specs.Layouts.{Layout, IsPlan, stages, workers, stage_at, cut_at, cut_before, capacity_at, is_last}
-use Rattle.stage_graph.specs.Floors.{State, queue_at, hand_at, is_at, feed_cause, take_cause, give_cause, back_cause, leave_cause, halt_cause, is_allowed, standing}
+use Rattle.stage_graph.specs.Floors.{State, queue_at, worker_slot_at, is_at, feed_cause, take_cause, give_cause, back_cause, leave_cause, halt_cause, is_allowed, standing}
 use Rattle.stage_graph.specs.After.{with_steps, slot_mark, last_cut, Parts, items_at, FloorAfter}
 use Rattle.stage_graph.specs.declared.event.Event.{Event}
 use Rattle.stage_graph.specs.declared.event.Event.TheVariants.{Feed, Take, Give, Back, Leave, Halt}
@@ -31,9 +31,9 @@ pub leave_allowed : (p : Layout) (n : ℕ) (h : List Event) (w : ℕ) → w < wo
 leave_allowed p n h w known none = and_both _ _ (lt-ltb w (workers p) known) (ap is_none none)
 
 -- a give that no cause refuses is of the held number, with the stage's steps done
-pub give_known : (p : Layout) (s : State) (w number steps : ℕ) → give_cause p s w number steps ≡ None → (is_at (hand_at s w) number ≡ true) × (steps ≡ cut_at p (stage_at p w))
+pub give_known : (p : Layout) (s : State) (w number steps : ℕ) → give_cause p s w number steps ≡ None → (is_at (worker_slot_at s w) number ≡ true) × (steps ≡ cut_at p (stage_at p w))
 give_known p s w number steps none =
-    let b = is_at (hand_at s w) number in
+    let b = is_at (worker_slot_at s w) number in
     let d = nat_eq steps (cut_at p (stage_at p w)) in
     let both : (b && d) ≡ true = of_cond (b && d) _ none in
     (and_left b d both, eqb-true steps (cut_at p (stage_at p w)) (and_right b d both))
@@ -59,11 +59,11 @@ module _ {X : Type 0} (mark : X → ℕ × ℕ) (p : Layout) (n : ℕ) (h : List
       (map-append mark v.0 (x ∷ []) ∙ (rw at (rw (all k in-p, is) (sym (map-append (with_steps (cut_before p k)) (queue_at s k) (number ∷ []))))))
       all
 
-  rooms_stay : (f : Parts X) (k : ℕ) (xs : List X) (v : List X × ℕ)
+  capacities_stay : (f : Parts X) (k : ℕ) (xs : List X) (v : List X × ℕ)
       → k < length f.queues → v ≡ get_or f.queues k ([], 0)
       → ((j : ℕ) → j < stages p → (get_or f.queues j ([], 0)).1 ≡ capacity_at p j) → k < stages p
       → (j : ℕ) → j < stages p → (get_or (set f.queues k (xs, v.1)) j ([], 0)).1 ≡ capacity_at p j
-  rooms_stay f k xs v in-f at all in-p =
+  capacities_stay f k xs v in-f at all in-p =
       by_place-set (λ j a b. a.1 ≡ capacity_at p j) f.queues f.queues ([], 0) ([], 0) (stages p) k (xs, v.1) v in-f in-f (ap (λ w. w.1) at ∙ all k in-p) all
 
   pub feed_allowed : (f : Parts X) (x : X) (rest : List X) → f.backlog ≡ x ∷ rest → feed_cause p (standing p n h) ≡ None → FloorAfter mark p n h f
@@ -86,12 +86,12 @@ module _ {X : Type 0} (mark : X → ℕ × ℕ) (p : Layout) (n : ℕ) (h : List
         backlog_is = rw e (map-tails mark (with_steps 0) x rest s.backlog tops);
         stages_are = simp length-set stands.stages_are;
         queues_are = rw e (joined_after f s 0 x v (mark x).0 (omega (arith, stands.stages_are)) (omega (arith, sized.queues)) is marked stands.queues_are some);
-        capacities_are = rooms_stay f 0 (v.0 ++ x ∷ []) v (omega (arith, stands.stages_are)) is stands.capacities_are some;
-        hands_are = rw e stands.hands_are;
+        capacities_are = capacities_stay f 0 (v.0 ++ x ∷ []) v (omega (arith, stands.stages_are)) is stands.capacities_are some;
+        worker_slots_are = rw e stands.worker_slots_are;
         slots_are = rw e stands.slots_are;
         count_is = stands.count_is;
         returned_are = rw e stands.returned_are;
-        hands_count = stands.hands_count;
+        worker_slots_count = stands.worker_slots_count;
         left_count = stands.left_count;
         stopped_is = rw e stands.stopped_is;
         left_are = rw e stands.left_are;
@@ -120,7 +120,7 @@ module _ {X : Type 0} (mark : X → ℕ × ℕ) (p : Layout) (n : ℕ) (h : List
       steps_first c x xs (y ∷ ys) t = let e : mark x ≡ (y, c) = cc in rw e refl
 
   pub take_stands : (f : Parts X) (w : ℕ) (x : X) (v : List X × ℕ) → w < workers p → v ≡ get_or f.queues (stage_at p w) ([], 0) → v.0 ≡ x ∷ drop 1 v.0 → take_cause p (standing p n h) w ≡ None → FloorAfter mark p n h f
-      → FloorAfter mark p n (h ++ Take w (mark x).0 ∷ []) (record f { queues = set f.queues (stage_at p w) (drop 1 v.0, v.1); hands = set f.hands w (Some (mark x).0) })
+      → FloorAfter mark p n (h ++ Take w (mark x).0 ∷ []) (record f { queues = set f.queues (stage_at p w) (drop 1 v.0, v.1); worker_slots = set f.worker_slots w (Some (mark x).0) })
   take_stands f w x v known is at none stands =
       let s = standing p n h in
       let k = stage_at p w in
@@ -135,24 +135,24 @@ module _ {X : Type 0} (mark : X → ℕ × ℕ) (p : Layout) (n : ℕ) (h : List
         stages_are = simp length-set stands.stages_are;
         queues_are = rw e (by_place-set (λ j a b. map mark a.0 ≡ map (with_steps (cut_before p j)) b) f.queues s.queues ([], 0) [] (stages p) k (drop 1 v.0, v.1) (drop 1 (queue_at s k))
             (omega (arith, stands.stages_are)) (omega (arith, sized.queues)) (map-tails mark (with_steps (cut_before p k)) x (drop 1 v.0) (queue_at s k) tops) stands.queues_are);
-        capacities_are = rooms_stay f k (drop 1 v.0) v (omega (arith, stands.stages_are)) is stands.capacities_are in-p;
-        hands_are = rw (e, stands.hands_are) refl;
+        capacities_are = capacities_stay f k (drop 1 v.0) v (omega (arith, stands.stages_are)) is stands.capacities_are in-p;
+        worker_slots_are = rw (e, stands.worker_slots_are) refl;
         slots_are = rw e stands.slots_are;
         count_is = stands.count_is;
         returned_are = rw e stands.returned_are;
-        hands_count = simp length-set stands.hands_count;
+        worker_slots_count = simp length-set stands.worker_slots_count;
         left_count = stands.left_count;
         stopped_is = rw e stands.stopped_is;
         left_are = rw e stands.left_are;
       }
 
   pub give_next_stands : (f : Parts X) (w : ℕ) (x : X) (v : List X × ℕ) → w < workers p → is_last p (stage_at p w) ≡ false → v ≡ get_or f.queues (stage_at p w + 1) ([], 0) → give_cause p (standing p n h) w (mark x).0 (mark x).1 ≡ None → FloorAfter mark p n h f
-      → FloorAfter mark p n (h ++ Give w (mark x).0 ∷ []) (record f { queues = set f.queues (stage_at p w + 1) (v.0 ++ x ∷ [], v.1); hands = set f.hands w None })
+      → FloorAfter mark p n (h ++ Give w (mark x).0 ∷ []) (record f { queues = set f.queues (stage_at p w + 1) (v.0 ++ x ∷ [], v.1); worker_slots = set f.worker_slots w None })
   give_next_stands f w x v known more is none stands =
       let s = standing p n h in
       let k = stage_at p w in
       let ev = Give w (mark x).0 in
-      let next : State = record s { hands = set s.hands w None; queues = set s.queues (k + 1) (queue_at s (k + 1) ++ (mark x).0 ∷ []) } in
+      let next : State = record s { worker_slots = set s.worker_slots w None; queues = set s.queues (k + 1) (queue_at s (k + 1) ++ (mark x).0 ∷ []) } in
       let e : standing p n (h ++ ev ∷ []) ≡ next = standing-snoc p n h ev ∙ rw more refl in
       let sized = IsSized-standing p n h in
       let in-p : k < stages p = stands.plan.posted w known in
@@ -165,24 +165,24 @@ module _ {X : Type 0} (mark : X → ℕ × ℕ) (p : Layout) (n : ℕ) (h : List
         backlog_is = rw e stands.backlog_is;
         stages_are = simp length-set stands.stages_are;
         queues_are = rw e (joined_after f s (k + 1) x v (mark x).0 (omega (arith, stands.stages_are)) (omega (arith, sized.queues)) is steps stands.queues_are in-p');
-        capacities_are = rooms_stay f (k + 1) (v.0 ++ x ∷ []) v (omega (arith, stands.stages_are)) is stands.capacities_are in-p';
-        hands_are = rw (e, stands.hands_are) refl;
+        capacities_are = capacities_stay f (k + 1) (v.0 ++ x ∷ []) v (omega (arith, stands.stages_are)) is stands.capacities_are in-p';
+        worker_slots_are = rw (e, stands.worker_slots_are) refl;
         slots_are = rw e stands.slots_are;
         count_is = stands.count_is;
         returned_are = rw e stands.returned_are;
-        hands_count = simp length-set stands.hands_count;
+        worker_slots_count = simp length-set stands.worker_slots_count;
         left_count = stands.left_count;
         stopped_is = rw e stands.stopped_is;
         left_are = rw e stands.left_are;
       }
 
   pub give_last_stands : (f : Parts X) (w : ℕ) (x : X) → w < workers p → is_last p (stage_at p w) ≡ true → (mark x).0 < n → give_cause p (standing p n h) w (mark x).0 (mark x).1 ≡ None → FloorAfter mark p n h f
-      → FloorAfter mark p n (h ++ Give w (mark x).0 ∷ []) (record f { slots = set f.slots (mark x).0 (Some x); hands = set f.hands w None })
+      → FloorAfter mark p n (h ++ Give w (mark x).0 ∷ []) (record f { slots = set f.slots (mark x).0 (Some x); worker_slots = set f.worker_slots w None })
   give_last_stands f w x known last inside none stands =
       let s = standing p n h in
       let k = stage_at p w in
       let ev = Give w (mark x).0 in
-      let next : State = record s { hands = set s.hands w None; done = set s.done (mark x).0 true } in
+      let next : State = record s { worker_slots = set s.worker_slots w None; done = set s.done (mark x).0 true } in
       let e : standing p n (h ++ ev ∷ []) ≡ next = standing-snoc p n h ev ∙ rw last refl in
       let sized = IsSized-standing p n h in
       let at-end : k ≡ stages p - 1 = omega (arith, eqb-true (k + 1) (stages p) last) in
@@ -195,19 +195,19 @@ module _ {X : Type 0} (mark : X → ℕ × ℕ) (p : Layout) (n : ℕ) (h : List
         stages_are = stands.stages_are;
         queues_are = rw e stands.queues_are;
         capacities_are = stands.capacities_are;
-        hands_are = rw (e, stands.hands_are) refl;
+        worker_slots_are = rw (e, stands.worker_slots_are) refl;
         slots_are = rw e (by_place-set (λ j a b. option_map mark a ≡ slot_mark (last_cut p) b j) f.slots s.done None false n (mark x).0 (Some x) true
             (omega (arith, stands.count_is)) (omega (arith, sized.done)) (ap Some steps) stands.slots_are);
         count_is = simp length-set stands.count_is;
         returned_are = rw e stands.returned_are;
-        hands_count = simp length-set stands.hands_count;
+        worker_slots_count = simp length-set stands.worker_slots_count;
         left_count = stands.left_count;
         stopped_is = rw e stands.stopped_is;
         left_are = rw e stands.left_are;
       }
 
   pub back_stands : (f : Parts X) (w : ℕ) (x : X) → w < workers p → back_cause (standing p n h) w (mark x).0 ≡ None → FloorAfter mark p n h f
-      → FloorAfter mark p n (h ++ Back w (mark x).0 ∷ []) (record f { hands = set f.hands w None; returned = f.returned ++ x ∷ []; stopped = true })
+      → FloorAfter mark p n (h ++ Back w (mark x).0 ∷ []) (record f { worker_slots = set f.worker_slots w None; returned = f.returned ++ x ∷ []; stopped = true })
   back_stands f w x known none stands =
       let ev = Back w (mark x).0 in
       let e = standing-snoc p n h ev in
@@ -218,11 +218,11 @@ module _ {X : Type 0} (mark : X → ℕ × ℕ) (p : Layout) (n : ℕ) (h : List
         stages_are = stands.stages_are;
         queues_are = rw e stands.queues_are;
         capacities_are = stands.capacities_are;
-        hands_are = rw (e, stands.hands_are) refl;
+        worker_slots_are = rw (e, stands.worker_slots_are) refl;
         slots_are = rw e stands.slots_are;
         count_is = stands.count_is;
         returned_are = rw e (map-append (λ y. (mark y).0) f.returned (x ∷ []) ∙ ap (λ r. r ++ (mark x).0 ∷ []) stands.returned_are);
-        hands_count = simp length-set stands.hands_count;
+        worker_slots_count = simp length-set stands.worker_slots_count;
         left_count = stands.left_count;
         stopped_is = rw e refl;
         left_are = rw e stands.left_are;
@@ -239,11 +239,11 @@ module _ {X : Type 0} (mark : X → ℕ × ℕ) (p : Layout) (n : ℕ) (h : List
         stages_are = stands.stages_are;
         queues_are = rw e stands.queues_are;
         capacities_are = stands.capacities_are;
-        hands_are = rw e stands.hands_are;
+        worker_slots_are = rw e stands.worker_slots_are;
         slots_are = rw e stands.slots_are;
         count_is = stands.count_is;
         returned_are = rw e stands.returned_are;
-        hands_count = stands.hands_count;
+        worker_slots_count = stands.worker_slots_count;
         left_count = simp length-set stands.left_count;
         stopped_is = rw e stands.stopped_is;
         left_are = rw (e, stands.left_are) refl;
@@ -259,24 +259,24 @@ module _ {X : Type 0} (mark : X → ℕ × ℕ) (p : Layout) (n : ℕ) (h : List
         stages_are = stands.stages_are;
         queues_are = rw e stands.queues_are;
         capacities_are = stands.capacities_are;
-        hands_are = rw e stands.hands_are;
+        worker_slots_are = rw e stands.worker_slots_are;
         slots_are = rw e stands.slots_are;
         count_is = stands.count_is;
         returned_are = rw e stands.returned_are;
-        hands_count = stands.hands_count;
+        worker_slots_count = stands.worker_slots_count;
         left_count = stands.left_count;
         stopped_is = rw e refl;
         left_are = rw e stands.left_are;
       }
 
-  -- the queue that code has at hand, of a stage with room
-  pub room_after : (f : Parts X) (k : ℕ) (v : List X × ℕ) → k < stages p → v ≡ get_or f.queues k v → nat_le (capacity_at p k) (length (queue_at (standing p n h) k)) ≡ false → FloorAfter mark p n h f
+  -- the queue that code has at hand, of a stage that isn't full
+  pub queue_not_full : (f : Parts X) (k : ℕ) (v : List X × ℕ) → k < stages p → v ≡ get_or f.queues k v → nat_le (capacity_at p k) (length (queue_at (standing p n h) k)) ≡ false → FloorAfter mark p n h f
       → (v ≡ get_or f.queues k ([], 0)) × (nat_le v.1 (length v.0) ≡ false)
-  room_after f k v in-p at room stands =
+  queue_not_full f k v in-p at not_full stands =
       let is : v ≡ get_or f.queues k ([], 0) = get_or_read f.queues k v (omega (arith, stands.stages_are)) at ([], 0) in
       let a : v.1 ≡ capacity_at p k = ap (λ u. u.1) is ∙ stands.capacities_are k in-p in
       let b : length v.0 ≡ length (queue_at (standing p n h) k) = ap (λ u. length u.0) is ∙ length-maps mark (with_steps (cut_before p k)) (items_at f k) (queue_at (standing p n h) k) (stands.queues_are k in-p) in
-      (is, rw (a, b) room)
+      (is, rw (a, b) not_full)
 
   -- a slot whose number is not done is empty
   pub empty_slot : (f : Parts X) (m : ℕ) → m < n → get_or (standing p n h).done m false ≡ false → FloorAfter mark p n h f → (m < length f.slots) × (get_or f.slots m None ≡ None)

@@ -2,7 +2,7 @@
 use Rattle.std.proofs.Common.{◌≡◌, ℕ, zero, suc, ◌+◌, ◌-◌, ◌<◌, ◌≤◌, Bool, true, false, cond, ◌&&◌, List, [], ◌∷◌, ◌++◌, length, get_or, take, replicate, nat_lt, nat_le, nat_eq, refl, sym, ap, ◌∙◌, subst, arith, Option, Some, None, length-append, append_assoc}
 use Rattle.std.proofs.lemmas.Bool.{ltb-true, ltb-false, eqb-true}
 use Rattle.std.proofs.lemmas.List.{append-nil, take_more, get_or-replicate, length-replicate, length-take-le, get_or_append_left, get_or-append-add}
-use Rattle.stage_graph.specs.Layouts.{Layout, IsPlan, HasRoom, cut_at, cut_before, posts_of, layout_of, is_rising, are_within}
+use Rattle.stage_graph.specs.Layouts.{Layout, IsPlan, HasCapacity, cut_at, cut_before, posts_of, layout_of, is_rising, are_within}
 use Rattle.stage_graph.specs.Floors.{is_nil}
 use Rattle.stage_graph.specs.PlanFaults.{plan_fault}
 use Rattle.stage_graph.specs.declared.plan.PlanFault.{PlanFault}
@@ -83,19 +83,19 @@ cond_not true o e h = absurd (cc)
 cond_not false o e h = (refl, h)
 
 -- lists without a fault are a plan
-pub plan_from : (cuts crews capacities : List ℕ) → plan_fault cuts crews capacities ≡ None → IsPlan (layout_of cuts crews capacities)
-plan_from cuts crews capacities h =
+pub plan_from : (cuts worker_counts capacities : List ℕ) → plan_fault cuts worker_counts capacities ≡ None → IsPlan (layout_of cuts worker_counts capacities)
+plan_from cuts worker_counts capacities h =
     let a = cond_not _ _ _ h in
     let b = cond_only _ _ _ a.1 in
     let c = cond_only _ _ _ b.1 in
     let d = cond_only _ _ _ c.1 in
-    let crew : length crews ≡ length cuts = eqb-true (length crews) (length cuts) (and_left _ _ c.0) in
-    let p = layout_of cuts crews capacities in
+    let worker_count : length worker_counts ≡ length cuts = eqb-true (length worker_counts) (length cuts) (and_left _ _ c.0) in
+    let p = layout_of cuts worker_counts capacities in
     record {
       some = not_nil cuts a.0;
       capacities = eqb-true (length capacities) (length cuts) (and_left _ _ d.0);
-      posted = λ w i. let t = seat_within 0 crews w i in omega (arith, t.1, crew);
-      manned = λ k i. let t = seat_found 0 crews k (and_right _ _ c.0) (omega (arith, crew)) in (t.0, t.1, t.2 ∙ omega arith);
+      posted = λ w i. let t = seat_within 0 worker_counts w i in omega (arith, t.1, worker_count);
+      manned = λ k i. let t = seat_found 0 worker_counts k (and_right _ _ c.0) (omega (arith, worker_count)) in (t.0, t.1, t.2 ∙ omega arith);
       bounded = λ k i. let e : k + (length cuts - 1 - k) ≡ length cuts - 1 = omega arith in let u = rises_to cuts k (length cuts - 1 - k) b.0 (omega arith) in rw e at u;
       rising = λ k i. rising_at p b.0 (not_nil cuts a.0) k i;
     }
@@ -111,12 +111,12 @@ plan_from cuts crews capacities h =
         let P : ℕ → Type 0 = λ j. cut_before p j < cut_at p j in
         subst P (sym e) (rw (cut_before-next p k) (rises 0 p.cuts k r (omega arith)))
 
--- and each of its queues has room
-pub room_from : (cuts crews capacities : List ℕ) → plan_fault cuts crews capacities ≡ None → HasRoom (layout_of cuts crews capacities)
-room_from cuts crews capacities h =
+-- and each of its queues has capacity
+pub capacity_from : (cuts worker_counts capacities : List ℕ) → plan_fault cuts worker_counts capacities ≡ None → HasCapacity (layout_of cuts worker_counts capacities)
+capacity_from cuts worker_counts capacities h =
     let a = cond_not (is_nil cuts) _ Empty h in
     let b = cond_only (is_rising 0 cuts) _ Order a.1 in
-    let c = cond_only (nat_eq (length crews) (length cuts) && are_within 16 crews) _ Workers b.1 in
+    let c = cond_only (nat_eq (length worker_counts) (length cuts) && are_within 16 worker_counts) _ Workers b.1 in
     let d = cond_only (nat_eq (length capacities) (length cuts) && are_within 4096 capacities) None Capacity c.1 in
     let long : length capacities ≡ length cuts = eqb-true (length capacities) (length cuts) (and_left (nat_eq (length capacities) (length cuts)) (are_within 4096 capacities) d.0) in
     let within = and_right (nat_eq (length capacities) (length cuts)) (are_within 4096 capacities) d.0 in

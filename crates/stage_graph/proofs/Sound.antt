@@ -6,9 +6,9 @@ use Rattle.std.proofs.lemmas.Bool.Decides.{eqb_tells}
 use Rattle.std.proofs.lemmas.List.Sums.{sum_by-cons}
 use Rattle.std.proofs.lemmas.List.Folds.{sum_by-replicate}
 use Rattle.stage_graph.specs.Layouts.{Layout, IsPlan, stages, workers, stage_at, cut_at, is_last}
-use Rattle.stage_graph.specs.Floors.{State, queue_at, hand_at, is_at, opening, give_cause, is_allowed, after, after_all, is_legal, standing, is_legal_from_opening, most_events}
+use Rattle.stage_graph.specs.Floors.{State, queue_at, worker_slot_at, is_at, opening, give_cause, is_allowed, after, after_all, is_legal, standing, is_legal_from_opening, most_events}
 use Rattle.stage_graph.specs.Counts.{one_at}
-use Rattle.stage_graph.proofs.Weights.{sum_from, Weights, of_hand, of_slot, of_flag, total, of_number, numbers, to_come}
+use Rattle.stage_graph.proofs.Weights.{sum_from, Weights, of_worker_slot, of_slot, of_flag, total, of_number, numbers, to_come}
 use Rattle.stage_graph.specs.declared.event.Cause.{Cause}
 use Rattle.stage_graph.specs.declared.event.Cause.TheVariants.{NotHeld}
 use Rattle.std.proofs.lemmas.List.FromFn.{length-range_with_len}
@@ -25,19 +25,19 @@ pub record IsPlaced (p : Layout) (n : ℕ) (s : State) : Type 0 where
   pub places : (x : ℕ) → total (of_number x) s ≡ cond (nat_lt x n) 1 0
 
 -- a held number weighs in the total as one that is held
-held_weighs : (v : Weights) (s : State) (w m : ℕ) → w < length s.hands → hand_at s w ≡ Some m → v.hand w m ≤ total v s
+held_weighs : (v : Weights) (s : State) (w m : ℕ) → w < length s.worker_slots → worker_slot_at s w ≡ Some m → v.worker_slot w m ≤ total v s
 unfolding total
 held_weighs v s w m inside at =
-    let a = get_or-le-sum_from (λ w h. of_hand (v.hand w) h) 0 s.hands w None inside in
-    let e : of_hand (v.hand (0 + w)) (hand_at s w) ≡ v.hand w m = rw (at, zero-add w) refl in
+    let a = get_or-le-sum_from (λ w h. of_worker_slot (v.worker_slot w) h) 0 s.worker_slots w None inside in
+    let e : of_worker_slot (v.worker_slot (0 + w)) (worker_slot_at s w) ≡ v.worker_slot w m = rw (at, zero-add w) refl in
     omega arith
 
 one_at-same : (m : ℕ) → one_at m m ≡ 1
 one_at-same m = rw (eq-eqb m m refl) refl
 
-below_from_place : (p : Layout) (n : ℕ) (s : State) (w m : ℕ) → IsPlaced p n s → w < workers p → hand_at s w ≡ Some m → nat_lt m n ≡ true
+below_from_place : (p : Layout) (n : ℕ) (s : State) (w m : ℕ) → IsPlaced p n s → w < workers p → worker_slot_at s w ≡ Some m → nat_lt m n ≡ true
 below_from_place p n s w m placed known at =
-    let a = held_weighs (of_number m) s w m (omega (arith, placed.sized.hands)) at in
+    let a = held_weighs (of_number m) s w m (omega (arith, placed.sized.worker_slots)) at in
     let b : 1 ≤ cond (nat_lt m n) 1 0 = omega (arith, a, one_at-same m, placed.places m) in
     positive (nat_lt m n) b
   where
@@ -46,13 +46,13 @@ below_from_place p n s w m placed known at =
     positive false h = absurd (omega arith)
 
 -- a number that is held and done would weigh twice
-free_from_place : (p : Layout) (n : ℕ) (s : State) (w m : ℕ) → IsPlaced p n s → w < workers p → m < n → hand_at s w ≡ Some m → get_or s.done m false ≡ false
+free_from_place : (p : Layout) (n : ℕ) (s : State) (w m : ℕ) → IsPlaced p n s → w < workers p → m < n → worker_slot_at s w ≡ Some m → get_or s.done m false ≡ false
 unfolding total
 free_from_place p n s w m placed known below at =
     let v = of_number m in
-    let a = get_or-le-sum_from (λ w h. of_hand (v.hand w) h) 0 s.hands w None (omega (arith, placed.sized.hands)) in
+    let a = get_or-le-sum_from (λ w h. of_worker_slot (v.worker_slot w) h) 0 s.worker_slots w None (omega (arith, placed.sized.worker_slots)) in
     let d = get_or-le-sum_from (λ j b. of_slot (v.done j) b) 0 s.done m false (omega (arith, placed.sized.done)) in
-    let e : of_hand (one_at m) (hand_at s w) ≡ 1 = rw (at) (one_at-same m) in
+    let e : of_worker_slot (one_at m) (worker_slot_at s w) ≡ 1 = rw (at) (one_at-same m) in
     let f : of_slot (one_at m (0 + m)) (get_or s.done m false) ≡ of_slot 1 (get_or s.done m false) = rw (zero-add m, one_at-same m) refl in
     let t : cond (nat_lt m n) 1 0 ≡ 1 = ap (λ b. cond b 1 0) (lt-ltb m n below) in
     let q : total (of_number m) s ≡ 1 = placed.places m ∙ t in
@@ -65,14 +65,14 @@ free_from_place p n s w m placed known below at =
 unfoldable pub lost : Weights → Layout → State → Event → ℕ
 lost v p s (Feed n) = v.backlog n
 lost v p s (Take w n) = v.queue (stage_at p w) n
-lost v p s (Give w n) = v.hand w n
-lost v p s (Back w n) = v.hand w n + of_flag v.running s.stopped
+lost v p s (Give w n) = v.worker_slot w n
+lost v p s (Back w n) = v.worker_slot w n + of_flag v.running s.stopped
 lost v p s (Leave w) = v.worker
 lost v p s Halt = v.running
 
 unfoldable pub gained : Weights → Layout → Event → ℕ
 gained v p (Feed n) = v.queue 0 n
-gained v p (Take w n) = v.hand w n
+gained v p (Take w n) = v.worker_slot w n
 gained v p (Give w n) = cond (is_last p (stage_at p w)) (v.done n) (v.queue (stage_at p w + 1) n)
 gained v p (Back w n) = v.returned n
 gained v p (Leave w) = 0
@@ -90,18 +90,18 @@ total_after v p n s (Take w x) plan placed ok =
     let known = ltb-true w (workers p) (and_left _ _ ok) in
     let rest = and_right _ _ ok in
     let may = may_take p s w (none_is _ (and_left _ _ rest)) in
-    total-take v s (stage_at p w) w x (omega (arith, placed.sized.queues, plan.posted w known)) (omega (arith, placed.sized.hands)) may.free (and_right _ _ rest)
+    total-take v s (stage_at p w) w x (omega (arith, placed.sized.queues, plan.posted w known)) (omega (arith, placed.sized.worker_slots)) may.free (and_right _ _ rest)
 total_after v p n s (Give w x) plan placed ok =
     let known = ltb-true w (workers p) (and_left _ _ ok) in
     let none = none_is _ (and_right _ _ ok) in
-    let at : hand_at s w ≡ Some x = give_at s w x none in
+    let at : worker_slot_at s w ≡ Some x = give_at s w x none in
     let below = ltb-true x n (below_from_place p n s w x placed known at) in
-    by_bool (λ b. total v (cond b (record s { hands = set s.hands w None; done = set s.done x true }) (record s { hands = set s.hands w None; queues = set s.queues (stage_at p w + 1) (queue_at s (stage_at p w + 1) ++ x ∷ []) })) + v.hand w x ≡ total v s + cond b (v.done x) (v.queue (stage_at p w + 1) x))
+    by_bool (λ b. total v (cond b (record s { worker_slots = set s.worker_slots w None; done = set s.done x true }) (record s { worker_slots = set s.worker_slots w None; queues = set s.queues (stage_at p w + 1) (queue_at s (stage_at p w + 1) ++ x ∷ []) })) + v.worker_slot w x ≡ total v s + cond b (v.done x) (v.queue (stage_at p w + 1) x))
     (is_last p (stage_at p w))
-    (λ last. total-finish v s w x (omega (arith, placed.sized.hands)) (omega (arith, placed.sized.done)) at (free_from_place p n s w x placed known below at))
-    (λ more. total-give v s (stage_at p w + 1) w x (omega (arith, placed.sized.queues, plan.posted w known, eqb-false (stage_at p w + 1) (stages p) more)) (omega (arith, placed.sized.hands)) at)
+    (λ last. total-finish v s w x (omega (arith, placed.sized.worker_slots)) (omega (arith, placed.sized.done)) at (free_from_place p n s w x placed known below at))
+    (λ more. total-give v s (stage_at p w + 1) w x (omega (arith, placed.sized.queues, plan.posted w known, eqb-false (stage_at p w + 1) (stages p) more)) (omega (arith, placed.sized.worker_slots)) at)
   where
-    give_at : (s : State) (w x : ℕ) → give_cause p s w x (cut_at p (stage_at p w)) ≡ None → hand_at s w ≡ Some x
+    give_at : (s : State) (w x : ℕ) → give_cause p s w x (cut_at p (stage_at p w)) ≡ None → worker_slot_at s w ≡ Some x
     give_at s w x none = at_is _ x (held_of _ _ _ none)
       where
         held_of : (a b : Bool) (o : Option Cause) → cond (a && b) o (Some NotHeld) ≡ None → a ≡ true
@@ -110,7 +110,7 @@ total_after v p n s (Give w x) plan placed ok =
 total_after v p n s (Back w x) plan placed ok =
     let known = ltb-true w (workers p) (and_left _ _ ok) in
     let at = at_is _ x (may_back s w x (none_is _ (and_right _ _ ok))) in
-    let t = total-back v s w x (omega (arith, placed.sized.hands)) at in
+    let t = total-back v s w x (omega (arith, placed.sized.worker_slots)) at in
     omega arith
 total_after v p n s (Leave w) plan placed ok =
     let known = ltb-true w (workers p) (and_left _ _ ok) in
@@ -154,7 +154,7 @@ pub total-opening : (v : Weights) (p : Layout) (n : ℕ) → total v (opening p 
 unfolding total opening
 total-opening v p n =
     let a = sum_from-none (λ k q. sum_by (v.queue k) q) 0 (stages p) [] (λ _. refl) in
-    let b = sum_from-none (λ w h. of_hand (v.hand w) h) 0 (workers p) None (λ _. refl) in
+    let b = sum_from-none (λ w h. of_worker_slot (v.worker_slot w) h) 0 (workers p) None (λ _. refl) in
     let c = sum_from-none (λ j b. of_slot (v.done j) b) 0 n false (λ _. refl) in
     omega (arith, sum_by-replicate (of_flag v.worker) (workers p) false)
 
@@ -263,22 +263,22 @@ coming_after p n s (e ∷ h) plan placed legal =
     let t = coming_after p n (after p s e) h plan next (and_right _ _ legal) in
     omega (arith, falls p n s e plan placed (and_left _ _ legal), t)
 
--- there is room for one more event
-pub room_for : (p : Layout) (n : ℕ) (h : List Event) (e : Event) → IsPlan p → is_legal_from_opening p n h ≡ true → is_allowed p (standing p n h) e ≡ true → length h < most_events p n
+-- one more event fits into the most events
+pub event_fits : (p : Layout) (n : ℕ) (h : List Event) (e : Event) → IsPlan p → is_legal_from_opening p n h ≡ true → is_allowed p (standing p n h) e ≡ true → length h < most_events p n
 unfolding standing is_legal_from_opening
-room_for p n h e plan legal allowed =
+event_fits p n h e plan legal allowed =
     let a = coming_after p n (opening p n) h plan (IsPlaced-opening p n) legal in
     let b = falls p n (after_all p (opening p n) h) e plan (IsPlaced-after_all p n (opening p n) h plan (IsPlaced-opening p n) legal) allowed in
     let c = total-opening (to_come p) p n in
     let d : sum_by (to_come p).backlog (range_with_len 0 n) ≡ n * (1 + 2 * stages p) = sum_by-const (1 + 2 * stages p) (range_with_len 0 n) ∙ ap (λ m. m * (1 + 2 * stages p)) (length-range_with_len 0 n) in
     omega arith
 
--- a number in a hand is one of the floor's, and not done
-pub held_below : (p : Layout) (n : ℕ) (h : List Event) (w m : ℕ) → IsPlan p → is_legal_from_opening p n h ≡ true → w < workers p → is_at (hand_at (standing p n h) w) m ≡ true → m < n
+-- a number in a slot is one of the floor's, and not done
+pub held_below : (p : Layout) (n : ℕ) (h : List Event) (w m : ℕ) → IsPlan p → is_legal_from_opening p n h ≡ true → w < workers p → is_at (worker_slot_at (standing p n h) w) m ≡ true → m < n
 held_below p n h w m plan legal known at =
     ltb-true m n (below_from_place p n (standing p n h) w m (IsPlaced-standing p n h plan legal) known (at_is _ m at))
 
-pub held_not_done : (p : Layout) (n : ℕ) (h : List Event) (w m : ℕ) → IsPlan p → is_legal_from_opening p n h ≡ true → w < workers p → is_at (hand_at (standing p n h) w) m ≡ true → get_or (standing p n h).done m false ≡ false
+pub held_not_done : (p : Layout) (n : ℕ) (h : List Event) (w m : ℕ) → IsPlan p → is_legal_from_opening p n h ≡ true → w < workers p → is_at (worker_slot_at (standing p n h) w) m ≡ true → get_or (standing p n h).done m false ≡ false
 held_not_done p n h w m plan legal known at =
     free_from_place p n (standing p n h) w m (IsPlaced-standing p n h plan legal) known (held_below p n h w m plan legal known at) (at_is _ m at)
 
@@ -290,20 +290,20 @@ counted_standing p n h plan legal =
     let d : sum_by numbers.backlog (range_with_len 0 n) ≡ n * 1 = sum_by-const 1 (range_with_len 0 n) ∙ ap (λ m. m * 1) (length-range_with_len 0 n) in
     a ∙ c ∙ omega arith
 
--- where a hand is full, there are fewer than n returned
-returned_below : (s : State) (w m : ℕ) → w < length s.hands → hand_at s w ≡ Some m → length s.returned < total numbers s
+-- where a slot is full, there are fewer than n returned
+returned_below : (s : State) (w m : ℕ) → w < length s.worker_slots → worker_slot_at s w ≡ Some m → length s.returned < total numbers s
 unfolding total
 returned_below s w m inside at =
     let v = numbers in
-    let a = get_or-le-sum_from (λ w h. of_hand (v.hand w) h) 0 s.hands w None inside in
-    let e : of_hand (v.hand (0 + w)) (hand_at s w) ≡ 1 = rw at refl in
+    let a = get_or-le-sum_from (λ w h. of_worker_slot (v.worker_slot w) h) 0 s.worker_slots w None inside in
+    let e : of_worker_slot (v.worker_slot (0 + w)) (worker_slot_at s w) ≡ 1 = rw at refl in
     let r : sum_by v.returned s.returned ≡ length s.returned * 1 = sum_by-const 1 s.returned in
     omega arith
 
-pub returned_room : (p : Layout) (n : ℕ) (h : List Event) (w m : ℕ) → IsPlan p → is_legal_from_opening p n h ≡ true → w < workers p → is_at (hand_at (standing p n h) w) m ≡ true → length (standing p n h).returned < n
-returned_room p n h w m plan legal known at =
+pub returned_fits : (p : Layout) (n : ℕ) (h : List Event) (w m : ℕ) → IsPlan p → is_legal_from_opening p n h ≡ true → w < workers p → is_at (worker_slot_at (standing p n h) w) m ≡ true → length (standing p n h).returned < n
+returned_fits p n h w m plan legal known at =
     let sized = (IsPlaced-standing p n h plan legal).sized in
-    let a = returned_below (standing p n h) w m (omega (arith, sized.hands)) (at_is _ m at) in
+    let a = returned_below (standing p n h) w m (omega (arith, sized.worker_slots)) (at_is _ m at) in
     omega (arith, counted_standing p n h plan legal, a)
 
 -- no legal history is longer than the most events

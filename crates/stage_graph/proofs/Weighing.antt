@@ -3,8 +3,8 @@ use Rattle.std.proofs.Common.{◌≡◌, ℕ, zero, suc, ◌+◌, ◌<◌, ◌�
 use Rattle.std.specs.List.{sum_by}
 use Rattle.std.proofs.lemmas.Bool.{eqb-true}
 use Rattle.std.proofs.lemmas.List.Sums.{sum_by-append, sum_by-set, sum_by-cons}
-use Rattle.stage_graph.specs.Floors.{State, queue_at, hand_at, has_left, is_at, first}
-use Rattle.stage_graph.proofs.Weights.{sum_from, Weights, of_hand, of_slot, of_flag, total}
+use Rattle.stage_graph.specs.Floors.{State, queue_at, worker_slot_at, has_left, is_at, first}
+use Rattle.stage_graph.proofs.Weights.{sum_from, Weights, of_worker_slot, of_slot, of_flag, total}
 use Rattle.stage_graph.proofs.Lists.{some_first}
 
 pub sum_from-set : {A : Type 0} (f : ℕ → A → ℕ) (k : ℕ) (xs : List A) (i : ℕ) (y d : A) → i < length xs → sum_from f k (set xs i y) + f (k + i) (get_or xs i d) ≡ sum_from f k xs + f (k + i) y
@@ -46,41 +46,41 @@ module _ (v : Weights) (s : State) where
       let b = sum_all-set (λ k q. sum_by (v.queue k) q) s.queues 0 (queue_at s 0 ++ n ∷ []) [] some in
       omega (arith, sum_by-append (v.queue 0) (queue_at s 0) (n ∷ []))
 
-  pub total-take : (k w n : ℕ) → k < length s.queues → w < length s.hands → hand_at s w ≡ None → is_at (first (queue_at s k)) n ≡ true
-      → total v (record s { queues = set s.queues k (drop 1 (queue_at s k)); hands = set s.hands w (Some n) }) + v.queue k n ≡ total v s + v.hand w n
+  pub total-take : (k w n : ℕ) → k < length s.queues → w < length s.worker_slots → worker_slot_at s w ≡ None → is_at (first (queue_at s k)) n ≡ true
+      → total v (record s { queues = set s.queues k (drop 1 (queue_at s k)); worker_slots = set s.worker_slots w (Some n) }) + v.queue k n ≡ total v s + v.worker_slot w n
   unfolding total
   total-take k w n in-q in-h free at =
       let a = sum_by-first (v.queue k) (queue_at s k) n at in
       let b = sum_all-set (λ k q. sum_by (v.queue k) q) s.queues k (drop 1 (queue_at s k)) [] in-q in
-      let c = sum_all-set (λ w h. of_hand (v.hand w) h) s.hands w (Some n) None in-h in
-      let d : of_hand (v.hand w) (hand_at s w) ≡ 0 = rw free refl in
+      let c = sum_all-set (λ w h. of_worker_slot (v.worker_slot w) h) s.worker_slots w (Some n) None in-h in
+      let d : of_worker_slot (v.worker_slot w) (worker_slot_at s w) ≡ 0 = rw free refl in
       omega arith
 
-  pub total-give : (k w n : ℕ) → k < length s.queues → w < length s.hands → hand_at s w ≡ Some n
-      → total v (record s { hands = set s.hands w None; queues = set s.queues k (queue_at s k ++ n ∷ []) }) + v.hand w n ≡ total v s + v.queue k n
+  pub total-give : (k w n : ℕ) → k < length s.queues → w < length s.worker_slots → worker_slot_at s w ≡ Some n
+      → total v (record s { worker_slots = set s.worker_slots w None; queues = set s.queues k (queue_at s k ++ n ∷ []) }) + v.worker_slot w n ≡ total v s + v.queue k n
   unfolding total
   total-give k w n in-q in-h at =
       let b = sum_all-set (λ k q. sum_by (v.queue k) q) s.queues k (queue_at s k ++ n ∷ []) [] in-q in
-      let c = sum_all-set (λ w h. of_hand (v.hand w) h) s.hands w None None in-h in
-      let d : of_hand (v.hand w) (hand_at s w) ≡ v.hand w n = rw at refl in
+      let c = sum_all-set (λ w h. of_worker_slot (v.worker_slot w) h) s.worker_slots w None None in-h in
+      let d : of_worker_slot (v.worker_slot w) (worker_slot_at s w) ≡ v.worker_slot w n = rw at refl in
       omega (arith, sum_by-append (v.queue k) (queue_at s k) (n ∷ []))
 
-  pub total-finish : (w n : ℕ) → w < length s.hands → n < length s.done → hand_at s w ≡ Some n → get_or s.done n false ≡ false
-      → total v (record s { hands = set s.hands w None; done = set s.done n true }) + v.hand w n ≡ total v s + v.done n
+  pub total-finish : (w n : ℕ) → w < length s.worker_slots → n < length s.done → worker_slot_at s w ≡ Some n → get_or s.done n false ≡ false
+      → total v (record s { worker_slots = set s.worker_slots w None; done = set s.done n true }) + v.worker_slot w n ≡ total v s + v.done n
   unfolding total
   total-finish w n in-h in-d at free =
       let b = sum_all-set (λ j b. of_slot (v.done j) b) s.done n true false in-d in
-      let c = sum_all-set (λ w h. of_hand (v.hand w) h) s.hands w None None in-h in
-      let d : of_hand (v.hand w) (hand_at s w) ≡ v.hand w n = rw at refl in
+      let c = sum_all-set (λ w h. of_worker_slot (v.worker_slot w) h) s.worker_slots w None None in-h in
+      let d : of_worker_slot (v.worker_slot w) (worker_slot_at s w) ≡ v.worker_slot w n = rw at refl in
       let e : of_slot (v.done n) (get_or s.done n false) ≡ 0 = rw free refl in
       omega arith
 
-  pub total-back : (w n : ℕ) → w < length s.hands → hand_at s w ≡ Some n
-      → total v (record s { hands = set s.hands w None; returned = s.returned ++ n ∷ []; stopped = true }) + v.hand w n + of_flag v.running s.stopped ≡ total v s + v.returned n
+  pub total-back : (w n : ℕ) → w < length s.worker_slots → worker_slot_at s w ≡ Some n
+      → total v (record s { worker_slots = set s.worker_slots w None; returned = s.returned ++ n ∷ []; stopped = true }) + v.worker_slot w n + of_flag v.running s.stopped ≡ total v s + v.returned n
   unfolding total
   total-back w n in-h at =
-      let c = sum_all-set (λ w h. of_hand (v.hand w) h) s.hands w None None in-h in
-      let d : of_hand (v.hand w) (hand_at s w) ≡ v.hand w n = rw at refl in
+      let c = sum_all-set (λ w h. of_worker_slot (v.worker_slot w) h) s.worker_slots w None None in-h in
+      let d : of_worker_slot (v.worker_slot w) (worker_slot_at s w) ≡ v.worker_slot w n = rw at refl in
       omega (arith, sum_by-append v.returned s.returned (n ∷ []))
 
   pub total-leave : (w : ℕ) → w < length s.left → has_left s w ≡ false

@@ -6,7 +6,7 @@ use Rattle.std.proofs.lemmas.Bool.Decides.{eqb_tells}
 use Rattle.std.proofs.lemmas.List.Sums.{sum_by-cons}
 use Rattle.stage_graph.specs.Layouts.{Layout, stages, stage_at}
 use Rattle.stage_graph.specs.Floors.{State}
-use Rattle.stage_graph.specs.Counts.{one_at, times_in, times_in_hand, places_of}
+use Rattle.stage_graph.specs.Counts.{one_at, times_in, times_in_worker_slot, places_of}
 
 -- the sum of f over a list, with each place
 abbrev pub sum_from : {A : Type 0} → (ℕ → A → ℕ) → ℕ → List A → ℕ
@@ -17,15 +17,15 @@ sum_from f k (x ∷ xs) = f k x + sum_from f (suc k) xs
 pub record Weights : Type 0 where
   pub backlog : ℕ → ℕ
   pub queue : ℕ → ℕ → ℕ
-  pub hand : ℕ → ℕ → ℕ
+  pub worker_slot : ℕ → ℕ → ℕ
   pub done : ℕ → ℕ
   pub returned : ℕ → ℕ
   pub worker : ℕ
   pub running : ℕ
 
-abbrev pub of_hand : (ℕ → ℕ) → Option ℕ → ℕ
-of_hand f None = 0
-of_hand f (Some n) = f n
+abbrev pub of_worker_slot : (ℕ → ℕ) → Option ℕ → ℕ
+of_worker_slot f None = 0
+of_worker_slot f (Some n) = f n
 
 abbrev pub of_slot : ℕ → Bool → ℕ
 of_slot n b = cond b n 0
@@ -35,22 +35,22 @@ of_flag n b = cond b 0 n
 
 unfoldable pub total : Weights → State → ℕ
 total v s =
-    sum_by v.backlog s.backlog + sum_from (λ k q. sum_by (v.queue k) q) 0 s.queues + sum_from (λ w h. of_hand (v.hand w) h) 0 s.hands
+    sum_by v.backlog s.backlog + sum_from (λ k q. sum_by (v.queue k) q) 0 s.queues + sum_from (λ w h. of_worker_slot (v.worker_slot w) h) 0 s.worker_slots
     + sum_from (λ j b. of_slot (v.done j) b) 0 s.done + sum_by v.returned s.returned + sum_by (of_flag v.worker) s.left + of_flag v.running s.stopped
 
 abbrev pub of_number : ℕ → Weights
-of_number x = record { backlog = one_at x; queue = λ _. one_at x; hand = λ _. one_at x; done = one_at x; returned = one_at x; worker = 0; running = 0 }
+of_number x = record { backlog = one_at x; queue = λ _. one_at x; worker_slot = λ _. one_at x; done = one_at x; returned = one_at x; worker = 0; running = 0 }
 
 -- how many numbers there are
 abbrev pub numbers : Weights
-numbers = record { backlog = λ _. 1; queue = λ _ _. 1; hand = λ _ _. 1; done = λ _. 1; returned = λ _. 1; worker = 0; running = 0 }
+numbers = record { backlog = λ _. 1; queue = λ _ _. 1; worker_slot = λ _ _. 1; done = λ _. 1; returned = λ _. 1; worker = 0; running = 0 }
 
 -- the events that may still come
 abbrev pub to_come : Layout → Weights
 to_come p = record {
   backlog = λ _. 1 + 2 * stages p;
   queue = λ k _. 2 * (stages p - k);
-  hand = λ w _. 2 * (stages p - stage_at p w) - 1;
+  worker_slot = λ w _. 2 * (stages p - stage_at p w) - 1;
   done = λ _. 0;
   returned = λ _. 0;
   worker = 1;
@@ -62,10 +62,10 @@ sum_from-plain : {A : Type 0} (f : A → ℕ) (k : ℕ) (xs : List A) → sum_fr
 sum_from-plain f k [] = refl
 sum_from-plain f k (x ∷ xs) = ap (λ m. f x + m) (sum_from-plain f (suc k) xs) ∙ sym (sum_by-cons f x xs)
 
-hands-plain : (x k : ℕ) (hs : List (Option ℕ)) → sum_from (λ _ h. of_hand (one_at x) h) k hs ≡ sum_by (times_in_hand x) hs
-hands-plain x k [] = refl
-hands-plain x k (None ∷ hs) = let t = hands-plain x (suc k) hs in let u = sum_by-cons (times_in_hand x) None hs in omega arith
-hands-plain x k (Some n ∷ hs) = ap (λ m. one_at x n + m) (hands-plain x (suc k) hs) ∙ sym (sum_by-cons (times_in_hand x) (Some n) hs)
+worker_slots-plain : (x k : ℕ) (hs : List (Option ℕ)) → sum_from (λ _ h. of_worker_slot (one_at x) h) k hs ≡ sum_by (times_in_worker_slot x) hs
+worker_slots-plain x k [] = refl
+worker_slots-plain x k (None ∷ hs) = let t = worker_slots-plain x (suc k) hs in let u = sum_by-cons (times_in_worker_slot x) None hs in omega arith
+worker_slots-plain x k (Some n ∷ hs) = ap (λ m. one_at x n + m) (worker_slots-plain x (suc k) hs) ∙ sym (sum_by-cons (times_in_worker_slot x) (Some n) hs)
 
 no_weight : (b : Bool) → of_slot 0 b ≡ 0
 no_weight true = refl
@@ -108,7 +108,7 @@ pub weight-places : (s : State) (x : ℕ) → total (of_number x) s ≡ places_o
 unfolding total
 weight-places s x =
     let q = sum_from-plain (times_in x) 0 s.queues in
-    let h = hands-plain x 0 s.hands in
+    let h = worker_slots-plain x 0 s.worker_slots in
     let z : 0 + x ≡ x = omega arith in
     let d : sum_from (λ j b. of_slot (one_at x j) b) 0 s.done ≡ cond (get_or s.done x false) 1 0 = let P : ℕ → Type 0 = λ m. sum_from (λ j b. of_slot (one_at m j) b) 0 s.done ≡ cond (get_or s.done x false) 1 0 in subst P z (done-at 0 x s.done) in
     let l = flags-none s.left in

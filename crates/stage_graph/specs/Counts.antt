@@ -7,24 +7,24 @@ use Rattle.stage_graph.specs.Layouts.{Layout, stages, stage_at, capacity_at}
 use Rattle.stage_graph.specs.declared.event.Event.{Event}
 use Rattle.stage_graph.specs.declared.event.Event.TheVariants.{Feed, Take, Give, Back, Leave, Halt}
 
--- Where each number is: in the backlog, a queue, a hand, the done set or the returned list.
+-- Where each number is: in the backlog, a queue, a slot, the done set or the returned list.
 
 abbrev pub one_at : ℕ → ℕ → ℕ
 one_at x y = if nat_eq x y then 1 else 0
 
--- how often a number stands in a list
+-- how often a number is in a list
 abbrev pub times_in : ℕ → List ℕ → ℕ
 times_in x ns = sum_by (one_at x) ns
 
-abbrev pub times_in_hand : ℕ → Option ℕ → ℕ
-times_in_hand x None = 0
-times_in_hand x (Some n) = one_at x n
+abbrev pub times_in_worker_slot : ℕ → Option ℕ → ℕ
+times_in_worker_slot x None = 0
+times_in_worker_slot x (Some n) = one_at x n
 
--- At how many places of a floor a number is: in the backlog, in the queues, in the hands, in the done set and in the
+-- At how many places of a floor a number is: in the backlog, in the queues, in the slots, in the done set and in the
 -- returned list, all counted together.
 abbrev pub places_of : State → ℕ → ℕ
 places_of s x =
-    times_in x s.backlog + sum_by (times_in x) s.queues + sum_by (times_in_hand x) s.hands
+    times_in x s.backlog + sum_by (times_in x) s.queues + sum_by (times_in_worker_slot x) s.worker_slots
     + (if slice_index_or s.done x false then 1 else 0) + times_in x s.returned
 
 -- 1 for a take of the number x by a worker of stage k, and 0 for any other event

@@ -16,18 +16,18 @@ use Rattle.stage_graph.specs.declared.legality.Checked.TheVariants.{Legal, Illeg
 -- | event     | what it does                                                       | causes of its refusal, in order |
 -- |-----------|--------------------------------------------------------------------|---------------------------------|
 -- | feed      | the first of the backlog goes into the first queue                 | Stopped, Empty, Full            |
--- | take      | the front of the queue of the worker's stage goes into its hand    | Gone, Busy, Stopped, Empty      |
--- | give      | from the hand into the next queue, or after the last stage to done | NotHeld, Full                   |
--- | back      | from the hand to the returned numbers; the floor is stopped        | NotHeld                         |
+-- | take      | the front of the queue of the worker's stage goes into its slot    | Gone, Busy, Stopped, Empty      |
+-- | give      | from the slot into the next queue, or after the last stage to done | NotHeld, Full                   |
+-- | back      | from the slot to the returned numbers; the floor is stopped        | NotHeld                         |
 -- | leave     | the worker has left                                                | Gone, Busy, Early               |
 -- | halt      | the floor is stopped                                               | Stopped                         |
 
--- Where the numbers are: waiting to be fed, in the queue of each stage, in the hand of each worker, done (by number),
+-- Where the numbers are: waiting to be fed, in the queue of each stage, in the slot of each worker, done (by number),
 -- and sent back; whether the floor is stopped; and which workers have left.
 pub record State : Type 0 where
   pub backlog : List ℕ
   pub queues : List (List ℕ)
-  pub hands : List (Option ℕ)
+  pub worker_slots : List (Option ℕ)
   pub done : List Bool
   pub returned : List ℕ
   pub stopped : Bool
@@ -36,8 +36,8 @@ pub record State : Type 0 where
 abbrev pub queue_at : State → ℕ → List ℕ
 queue_at s k = slice_index_or s.queues k []
 
-abbrev pub hand_at : State → ℕ → Option ℕ
-hand_at s w = slice_index_or s.hands w None
+abbrev pub worker_slot_at : State → ℕ → Option ℕ
+worker_slot_at s w = slice_index_or s.worker_slots w None
 
 abbrev pub has_left : State → ℕ → Bool
 has_left s w = slice_index_or s.left w false
@@ -57,21 +57,21 @@ first (x ∷ xs) = Some x
 
 -- no worker of a stage before k holds a number
 abbrev pub idle_before : ℕ → List ℕ → List (Option ℕ) → Bool
-idle_before k [] hands = true
+idle_before k [] worker_slots = true
 idle_before k (t ∷ ts) [] = true
 idle_before k (t ∷ ts) (h ∷ hs) = (nat_le k t || is_none h) && idle_before k ts hs
 
 -- Nothing can come to a worker of stage k any more: no number is in the backlog, in the queues up to that of stage k,
--- or in a hand of an earlier stage.
+-- or in a slot of an earlier stage.
 abbrev pub is_drained : Layout → State → ℕ → Bool
-is_drained p s k = is_nil s.backlog && (list_all is_nil (take (k + 1) s.queues) && idle_before k p.posts s.hands)
+is_drained p s k = is_nil s.backlog && (list_all is_nil (take (k + 1) s.queues) && idle_before k p.posts s.worker_slots)
 
 -- the floor on which n numbers wait, from 0 on, and nothing else is
 unfoldable pub opening : Layout → ℕ → State
 opening p n = record {
   backlog = range_with_len 0 n;
   queues = replicate (stages p) [];
-  hands = replicate (workers p) None;
+  worker_slots = replicate (workers p) None;
   done = replicate n false;
   returned = [];
   stopped = false;
@@ -88,25 +88,25 @@ feed_cause p s =
 abbrev pub take_cause : Layout → State → ℕ → Option Cause
 take_cause p s w =
     if has_left s w then Some Gone
-    else (if is_some (hand_at s w) then Some Busy else
+    else (if is_some (worker_slot_at s w) then Some Busy else
     (if s.stopped then Some Stopped else (if is_nil (queue_at s (stage_at p w)) then Some Empty else None)))
 
 -- `steps` are those done to the item: exactly those up to the end of the worker's stage are asked for
 abbrev pub give_cause : Layout → State → ℕ → ℕ → ℕ → Option Cause
 give_cause p s w n steps =
-    if is_at (hand_at s w) n && nat_eq steps (cut_at p (stage_at p w))
+    if is_at (worker_slot_at s w) n && nat_eq steps (cut_at p (stage_at p w))
     then (if is_last p (stage_at p w) then None
     else (if nat_le (capacity_at p (stage_at p w + 1))
     (length (queue_at s (stage_at p w + 1))) then Some Full else None))
     else Some NotHeld
 
 abbrev pub back_cause : State → ℕ → ℕ → Option Cause
-back_cause s w n = if is_at (hand_at s w) n then None else Some NotHeld
+back_cause s w n = if is_at (worker_slot_at s w) n then None else Some NotHeld
 
 abbrev pub leave_cause : Layout → State → ℕ → Option Cause
 leave_cause p s w =
     if has_left s w then Some Gone
-    else (if is_some (hand_at s w) then Some Busy else
+    else (if is_some (worker_slot_at s w) then Some Busy else
     (if s.stopped || is_drained p s (stage_at p w) then None else Some Early))
 
 abbrev pub halt_cause : State → Option Cause
@@ -129,16 +129,23 @@ after p s (Feed n) = record s { backlog = drop 1 s.backlog; queues = slice_set s
 after p s (Take w n) = record s {
   queues = slice_set s.queues (stage_at p w)
       (drop 1 (queue_at s (stage_at p w)));
-  hands = slice_set s.hands w (Some n);
+  worker_slots = slice_set s.worker_slots w (Some n);
 }
 after p s (Give w n) =
-    if is_last p (stage_at p w) then record s { hands = slice_set s.hands w None; done = slice_set s.done n true }
+    if is_last p (stage_at p w) then record s {
+      worker_slots = slice_set s.worker_slots w None;
+      done = slice_set s.done n true;
+    }
     else record s {
-      hands = slice_set s.hands w None;
+      worker_slots = slice_set s.worker_slots w None;
       queues = slice_set s.queues (stage_at p w + 1)
           (queue_at s (stage_at p w + 1) ++ n ∷ []);
     }
-after p s (Back w n) = record s { hands = slice_set s.hands w None; returned = s.returned ++ n ∷ []; stopped = true }
+after p s (Back w n) = record s {
+  worker_slots = slice_set s.worker_slots w None;
+  returned = s.returned ++ n ∷ [];
+  stopped = true;
+}
 after p s (Leave w) = record s { left = slice_set s.left w true }
 after p s Halt = record s { stopped = true }
 
@@ -147,7 +154,7 @@ unfoldable pub after_all : Layout → State → List Event → State
 after_all p s [] = s
 after_all p s (e ∷ es) = after_all p (after p s e) es
 
--- each event is allowed where it stands
+-- each event is allowed in its place
 unfoldable pub is_legal : Layout → State → List Event → Bool
 is_legal p s [] = true
 is_legal p s (e ∷ es) = is_allowed p s e && is_legal p (after p s e) es
@@ -191,7 +198,7 @@ has_stop (e ∷ es) = is_stop e || has_stop es
 
 -- Whether a history is legal, or the first place of it that is not.
 
--- The event at place k, from 0, isn't allowed where it stands, and those before it are.
+-- The event at place k, from 0, isn't allowed in its place, and those before it are.
 pub record IsFirstRefused (p : Layout) (n : ℕ) (h : List Event) (k : ℕ) : Type 0 where
   pub refused : Event
   pub there : slice_get h k ≡ Some refused

@@ -34,9 +34,9 @@ cut_before p k = if nat_eq k 0 then 0 else cut_at p (k - 1)
 abbrev pub capacity_at : Layout → ℕ → ℕ
 capacity_at p k = slice_index p.capacities k
 
--- each queue has room for an item at least
-abbrev pub HasRoom : Layout → Type 0
-HasRoom p = (k : ℕ) → k < stages p → 0 < capacity_at p k
+-- each queue has capacity for an item at least
+abbrev pub HasCapacity : Layout → Type 0
+HasCapacity p = (k : ℕ) → k < stages p → 0 < capacity_at p k
 
 -- whether k is the last stage
 abbrev pub is_last : Layout → ℕ → Bool
@@ -48,7 +48,8 @@ posts_of k [] = []
 posts_of k (w ∷ ws) = replicate w k ++ posts_of (suc k) ws
 
 abbrev pub layout_of : List ℕ → List ℕ → List ℕ → Layout
-layout_of cuts crews capacities = record { cuts = cuts; posts = posts_of 0 crews; capacities = capacities }
+layout_of cuts worker_counts capacities =
+    record { cuts = cuts; posts = posts_of 0 worker_counts; capacities = capacities }
 
 -- strictly rising numbers above a
 abbrev pub is_rising : ℕ → List ℕ → Bool
@@ -68,17 +69,17 @@ pub record IsPlan (p : Layout) : Type 0 where
   pub bounded : (k : ℕ) → k < stages p → cut_at p k ≤ cut_at p (stages p - 1)
   pub rising : (k : ℕ) → k < stages p → cut_before p k < cut_at p k
 
--- Items that are to be carried through a floor, in lots.
+-- Items that are to be carried through a floor, in chunks.
 
--- the most items in a lot: one at least, and no more than the queue of each stage has room for
-pub record IsLotSize (plan : Layout) (size : ℕ) : Type 0 where
+-- the most items in a chunk: one at least, and no more than the queue of each stage has capacity for
+pub record IsChunkSize (plan : Layout) (size : ℕ) : Type 0 where
   pub some : 0 < size
   pub fits : (k : ℕ) → k < stages plan → size ≤ capacity_at plan k
 
--- a lot has an item, and at most so many
-abbrev pub IsLot : {X : Type 0} → ℕ → List X → Type 0
-IsLot size xs = (0 < length xs) × (length xs ≤ size)
+-- a chunk has an item, and at most so many
+abbrev pub IsChunk : {X : Type 0} → ℕ → List X → Type 0
+IsChunk size xs = (0 < length xs) × (length xs ≤ size)
 
--- each of these lists is a lot
-abbrev pub AreLots : {L X : Type 0} → (L → List X) → ℕ → List L → Type 0
-AreLots items size lots = All (λ l. IsLot size (items l)) lots
+-- each of these lists is a chunk
+abbrev pub AreChunks : {L X : Type 0} → (L → List X) → ℕ → List L → Type 0
+AreChunks items size chunks = All (λ l. IsChunk size (items l)) chunks

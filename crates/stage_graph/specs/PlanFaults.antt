@@ -8,10 +8,10 @@ use Rattle.stage_graph.specs.declared.plan.PlanFault.TheVariants.{Empty, Order, 
 -- The first fault of a plan's lists, if there is one: there is a cut; the cuts rise strictly from at least 1; there
 -- are as many numbers of workers, each from 1 to 16, and as many capacities, each from 1 to 4,096.
 abbrev pub plan_fault : List ℕ → List ℕ → List ℕ → Option PlanFault
-plan_fault cuts crews capacities =
+plan_fault cuts worker_counts capacities =
     if is_nil cuts then Some Empty
     else (if is_rising 0 cuts
-    then (if nat_eq (length crews) (length cuts) && are_within 16 crews
+    then (if nat_eq (length worker_counts) (length cuts) && are_within 16 worker_counts
     then (if nat_eq (length capacities) (length cuts) && are_within 4096 capacities then None else Some Capacity)
     else Some Workers)
     else Some Order)

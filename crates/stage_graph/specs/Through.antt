@@ -1,7 +1,7 @@
--- That items went through a floor of a plan, in lots.
+-- That items went through a floor of a plan, in chunks.
 use Rattle.std.specs.Prelude.{◌≡◌, ℕ, ◌*◌, ◌<◌, ◌≤◌, List, length, flat_map, true}
 use Rattle.std.specs.List.{range_with_len}
-use Rattle.stage_graph.specs.Layouts.{Layout, stages, capacity_at, AreLots}
+use Rattle.stage_graph.specs.Layouts.{Layout, stages, capacity_at, AreChunks}
 use Rattle.stage_graph.specs.Floors.{standing, is_legal_from_opening, all_left, all_done, has_stop}
 use Rattle.stage_graph.specs.Counts.{KeepsBounds, takes_of, feeds_of, gives_of}
 use Rattle.stage_graph.specs.declared.event.Event.{Event}
@@ -17,20 +17,20 @@ IsStopped p n Memory = Unit {0}
 IsStopped p n (Stopped h) = (is_legal_from_opening p n h ≡ true) × (all_left (standing p n h) ≡ true)
     × (has_stop h ≡ true) × KeepsBounds p n h
 
--- The floor of a plan on which items travel in lots of at most this size: the plan's own steps, stages and workers,
--- and in each queue room for one lot at least, and for so many that their items are no more than the plan's queue has
--- room for.
-pub record IsFloorInLots (plan : Layout) (size : ℕ) (floor : Layout) : Type 0 where
-  pub lot : 0 < size
+-- The floor of a plan on which items travel in chunks of at most this size: the plan's own steps, stages and workers,
+-- and each queue with a capacity for one chunk at least, and for so many that their items are no more than the plan's
+-- queue has capacity for.
+pub record IsFloorInChunks (plan : Layout) (size : ℕ) (floor : Layout) : Type 0 where
+  pub chunk : 0 < size
   pub cuts : floor.cuts ≡ plan.cuts
   pub posts : floor.posts ≡ plan.posts
   pub some : (k : ℕ) → k < stages plan → 0 < capacity_at floor k
-  pub room : (k : ℕ) → k < stages plan → capacity_at floor k * size ≤ capacity_at plan k
+  pub fits : (k : ℕ) → k < stages plan → capacity_at floor k * size ≤ capacity_at plan k
 
--- Lots that are n items in their order, each in exactly one, none of them empty.
-pub record AreLotsOf (size n : ℕ) (lots : List (List ℕ)) : Type 0 where
-  pub in_order : flat_map (λ ns. ns) lots ≡ range_with_len 0 n
-  pub small : AreLots (λ ns. ns) size lots
+-- Chunks that are n items in their order, each in exactly one, none of them empty.
+pub record AreChunksOf (size n : ℕ) (chunks : List (List ℕ)) : Type 0 where
+  pub in_order : flat_map (λ ns. ns) chunks ≡ range_with_len 0 n
+  pub small : AreChunks (λ ns. ns) size chunks
 
 -- A history of so many numbers on a floor: legal from the opening floor, after which all workers have left and every
 -- number is done. Each number was fed once, and taken and given once at each stage, and all bounds are kept.
@@ -43,25 +43,25 @@ pub record IsWhole (floor : Layout) (count : ℕ) (history : List Event) : Type 
   pub given : (k x : ℕ) → k < stages floor → x < count → gives_of floor k x history ≡ 1
   pub bounds : KeepsBounds floor count history
 
--- All n items went through the floor of a plan in lots, each lot as one number of the history.
+-- All n items went through the floor of a plan in chunks, each chunk as one number of the history.
 pub record HasGoneThrough (plan : Layout) (n : ℕ) (history : List Event) : Type 0 where
   pub size : ℕ
   pub floor : Layout
-  pub lots : List (List ℕ)
-  pub laid : IsFloorInLots plan size floor
-  pub are : AreLotsOf size n lots
-  pub whole : IsWhole floor (length lots) history
+  pub chunks : List (List ℕ)
+  pub laid : IsFloorInChunks plan size floor
+  pub are : AreChunksOf size n chunks
+  pub whole : IsWhole floor (length chunks) history
 
--- The floor of a plan on which n items travelled in lots was stopped.
-pub record WasStoppedInLots (plan : Layout) (n : ℕ) (unrun : Unrun) : Type 0 where
+-- The floor of a plan on which n items travelled in chunks was stopped.
+pub record WasStoppedInChunks (plan : Layout) (n : ℕ) (unrun : Unrun) : Type 0 where
   pub size : ℕ
   pub floor : Layout
-  pub lots : List (List ℕ)
-  pub laid : IsFloorInLots plan size floor
-  pub are : AreLotsOf size n lots
-  pub stopped : IsStopped floor (length lots) unrun
+  pub chunks : List (List ℕ)
+  pub laid : IsFloorInChunks plan size floor
+  pub are : AreChunksOf size n chunks
+  pub stopped : IsStopped floor (length chunks) unrun
 
--- What is known where there is no run: of a stopped floor, that it was that of the plan in lots of the items.
-abbrev pub IsStoppedInLots : Layout → ℕ → Unrun → Type 0
-IsStoppedInLots plan n Memory = Unit {0}
-IsStoppedInLots plan n (Stopped history) = WasStoppedInLots plan n (Stopped history)
+-- What is known where there is no run: of a stopped floor, that it was that of the plan in chunks of the items.
+abbrev pub IsStoppedInChunks : Layout → ℕ → Unrun → Type 0
+IsStoppedInChunks plan n Memory = Unit {0}
+IsStoppedInChunks plan n (Stopped history) = WasStoppedInChunks plan n (Stopped history)

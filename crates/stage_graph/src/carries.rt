@@ -1,50 +1,50 @@
-//! What takes lots through floors.
+//! What takes chunks through floors.
 
 ghost use Rattle.std.specs.Prelude.{◌≡◌, ℕ, map, IfOk};
 ghost use Rattle.stage_graph.specs.After.{last_cut};
-ghost use Rattle.stage_graph.specs.Crews.{AreSized};
-ghost use Rattle.stage_graph.specs.Layouts.{IsLotSize};
+ghost use Rattle.stage_graph.specs.Helpers.{AreSized};
+ghost use Rattle.stage_graph.specs.Layouts.{IsChunkSize};
 ghost use Rattle.stage_graph.specs.Steps.{value_of};
 
-use crate::{Before, Crew, Gate, Naming, Plan, Register, Steps, Travel, Unrun};
+use crate::{Before, Gate, Helpers, Naming, Plan, Register, Steps, Travel, Unrun};
 use std::sync::Wait;
 
-/// What takes lots through floors, as a crew does, where its type isn't named.
+/// What takes chunks through floors, as helpers do, where its type isn't named.
 pub trait Carries {
-    type Lot: Drop;
+    type Chunk: Drop;
 
     type Value;
 
-    /// Where lots are noted.
+    /// Where chunks are noted.
     type Register;
 
     ghost step: { ℕ → Self.Value → Self.Value };
 
-    ghost content: { Self.Lot → Self.Value };
+    ghost content: { Self.Chunk → Self.Value };
 
-    ghost count: { Self.Lot → ℕ };
+    ghost count: { Self.Chunk → ℕ };
 
-    /// Takes lots through a floor of this plan: [`Crew::run`] without the history.
+    /// Takes chunks through a floor of this plan: [`Helpers::run`] without the history.
     fn carry(
         &self,
         register: &mut Self::Register,
         plan: &Plan,
         size: usize,
         before: Before,
-        lots: Vec<Self::Lot>,
-    ) -> Result<Vec<Self::Lot>, Unrun>
-        requires size { IsLotSize plan.now size }
-        requires lots { AreSized count size lots.items }
+        chunks: Vec<Self::Chunk>,
+    ) -> Result<Vec<Self::Chunk>, Unrun>
+        requires size { IsChunkSize plan.now size }
+        requires chunks { AreSized count size chunks.items }
         ensures { IfOk result (λ v. map content v.items
-            ≡ map (λ x. value_of step (last_cut plan.now) (content x)) lots.items) };
+            ≡ map (λ x. value_of step (last_cut plan.now) (content x)) chunks.items) };
 }
 
-impl<'a, S: Steps, J: Naming, G: Gate, R: Wait> Carries for Crew<'a, Travel<S, J>, G, R> {
-    type Lot = S::Lot;
+impl<'a, S: Steps, J: Naming, G: Gate, R: Wait> Carries for Helpers<'a, Travel<S, J>, G, R> {
+    type Chunk = S::Chunk;
 
     type Value = S::Value;
 
-    type Register = Register<S::Lot, J>;
+    type Register = Register<S::Chunk, J>;
 
     ghost step = { S.step };
 
@@ -54,18 +54,18 @@ impl<'a, S: Steps, J: Naming, G: Gate, R: Wait> Carries for Crew<'a, Travel<S, J
 
     fn carry(
         &self,
-        register: &mut Register<S::Lot, J>,
+        register: &mut Register<S::Chunk, J>,
         plan: &Plan,
         size: usize,
         before: Before,
-        lots: Vec<S::Lot>,
-    ) -> Result<Vec<S::Lot>, Unrun>
-        requires size { IsLotSize plan.now size }
-        requires lots { AreSized S.count size lots.items }
+        chunks: Vec<S::Chunk>,
+    ) -> Result<Vec<S::Chunk>, Unrun>
+        requires size { IsChunkSize plan.now size }
+        requires chunks { AreSized S.count size chunks.items }
         ensures { IfOk result (λ v. map S.content v.items
-            ≡ map (λ x. value_of S.step (last_cut plan.now) (S.content x)) lots.items) }
+            ≡ map (λ x. value_of S.step (last_cut plan.now) (S.content x)) chunks.items) }
     {
-        let arrived = self.run(register, plan, size, before, lots)?;
-        Ok(arrived.lots)
+        let arrived = self.run(register, plan, size, before, chunks)?;
+        Ok(arrived.chunks)
     }
 }

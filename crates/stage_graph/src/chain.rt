@@ -18,8 +18,8 @@ pub trait Named: Drop {
         ensures { result ≡ done_of self.now };
 }
 
-/// What a gate is told of an item: how many stages come before those of its floor, its number, and the one after it.
-/// For an item that stands for several, the number of the first of them, and the one after the last.
+/// What a gate is notified of about an item: how many stages come before those of its floor, its number, and the one
+/// after it. For an item that is a chunk of several, the number of the first of them, and the one after the last.
 #[derive(Clone, Copy)]
 pub struct Span {
     pub stages: usize,
@@ -60,7 +60,7 @@ pub trait Chain {
             (λ x. (Self.Item.number_of x ≡ Self.Item.number_of item)
             × (Self.Item.done_of x ≡ Self.Item.done_of item)) };
 
-    /// What a gate is told of an item.
+    /// What a gate is notified of about an item.
     fn span(&self, item: &Self::Item) -> Span {
         let number = item.number();
         Span {

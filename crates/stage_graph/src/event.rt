@@ -9,11 +9,11 @@ use std::marker::Model;
 pub enum Event {
     /// The item of this number, the first of the backlog, goes into the first queue.
     Feed(usize),
-    /// The worker takes the first item of its stage's queue into its hand.
+    /// The worker takes the first item of its stage's queue into its slot.
     Take(usize, usize),
-    /// The worker gives the item in its hand to the next queue, or to the done items after the last stage.
+    /// The worker gives the item in its slot to the next queue, or to the done items after the last stage.
     Give(usize, usize),
-    /// The worker sends the item in its hand back, and the floor is stopped.
+    /// The worker sends the item in its slot back, and the floor is stopped.
     Back(usize, usize),
     /// The worker leaves.
     Leave(usize),
@@ -28,13 +28,13 @@ pub enum Cause {
     Stopped,
     /// There is no item where the event would take one.
     Empty,
-    /// There is no room in the queue where the event would put an item.
+    /// The queue where the event would put an item is full.
     Full,
     /// The worker has left.
     Gone,
-    /// The worker has an item in its hand.
+    /// The worker has an item in its slot.
     Busy,
-    /// The item is not the one in the worker's hand, or it has not exactly its stage's steps done.
+    /// The item is not the one in the worker's slot, or it has not exactly its stage's steps done.
     NotHeld,
     /// The floor is not stopped, and an item may still come to the worker.
     Early,

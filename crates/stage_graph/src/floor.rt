@@ -9,9 +9,10 @@ ghost use Rattle.stage_graph.specs.Steps.{value_of};
 ghost use Rattle.stage_graph.specs.Counts.{places_of, KeepsBounds, takes_of, feeds_of, gives_of};
 ghost use Rattle.stage_graph.specs.Layouts.{Layout, IsPlan, stages, workers, stage_at, cut_at, cut_before, capacity_at};
 ghost use Rattle.stage_graph.specs.Layouts.{is_last};
-ghost use Rattle.stage_graph.specs.Floors.{standing, queue_at, hand_at, has_left, is_nil, idle_before, is_drained};
-ghost use Rattle.stage_graph.specs.Floors.{is_at, first, is_allowed, feed_cause, take_cause, give_cause, back_cause};
-ghost use Rattle.stage_graph.specs.Floors.{leave_cause, halt_cause, is_legal_from_opening, all_left, all_done};
+ghost use Rattle.stage_graph.specs.Floors.{standing, queue_at, worker_slot_at, has_left, is_nil, idle_before};
+ghost use Rattle.stage_graph.specs.Floors.{is_drained, is_at, first, is_allowed, feed_cause, take_cause, give_cause};
+ghost use Rattle.stage_graph.specs.Floors.{back_cause, leave_cause, halt_cause, is_legal_from_opening, all_left};
+ghost use Rattle.stage_graph.specs.Floors.{all_done};
 ghost use Rattle.stage_graph.specs.Floors.{has_stop};
 ghost use Rattle.stage_graph.specs.Through.{IsWhole};
 
@@ -41,17 +42,17 @@ impl RunName for Brand {
     ghost count = { 0 };
 }
 
-/// A floor: a backlog, a queue for each stage, a hand for each worker, the done items by number, and the items that
+/// A floor: a backlog, a queue for each stage, a slot for each worker, the done items by number, and the items that
 /// were sent back. Contracts see it as its history, which its state follows from.
 ///
 /// Every call on it is refused for the first cause that holds, and then changes nothing, or it has the effect of its
-/// event, which then stands at the end of the history. None takes memory.
+/// event, which is then the last of the history. None takes memory.
 #[derive(Drop)]
 pub struct Floor<C: Chain, N: RunName> {
     plan: Plan,
     backlog: VecDeque<C::Item>,
     queues: Vec<Queue<C::Item>>,
-    hands: Vec<Option<usize>>,
+    worker_slots: Vec<Option<usize>>,
     slots: Slots<C::Item>,
     returned: Vec<C::Item>,
     stopped: bool,
@@ -76,7 +77,7 @@ impl<C: Chain, N: RunName> Model for Floor<C, N> {
         (record {
           backlog = f.backlog.items;
           queues = f.queues.items;
-          hands = f.hands.items;
+          worker_slots = f.worker_slots.items;
           slots = f.slots;
           returned = f.returned.items;
           stopped = f.stopped;
@@ -88,8 +89,8 @@ impl<C: Chain, N: RunName> Model for Floor<C, N> {
 }
 
 impl<C: Chain, N: RunName> Floor<C, N> {
-    /// The floor on which the items wait, numbered from 0 with no step done. It makes the room for all that later
-    /// calls on it grow. A refusal drops the items.
+    /// The floor on which the items wait, numbered from 0 with no step done. It reserves all that later calls on
+    /// it grow. A refusal drops the items.
     pub fn open(alloc: Global, plan: Plan, items: Vec<C::Item>) -> Result<Floor<C, N>, Memory>
         requires plan { plan ≡ N.plan }
         requires fresh { map (λ x. (C.Item.number_of x, C.Item.done_of x)) items.items
@@ -106,10 +107,10 @@ impl<C: Chain, N: RunName> Floor<C, N> {
         for stage in 0..stages {
             queues.push_reserved(Queue::new(alloc, plan.capacity(stage))?);
         }
-        let mut hands = Vec::with_capacity(alloc, workers)?;
+        let mut worker_slots = Vec::with_capacity(alloc, workers)?;
         let mut left = Vec::with_capacity(alloc, workers)?;
         for _worker in 0..workers {
-            hands.push_reserved(None);
+            worker_slots.push_reserved(None);
             left.push_reserved(false);
         }
         let slots = Slots::new(alloc, count)?;
@@ -119,7 +120,7 @@ impl<C: Chain, N: RunName> Floor<C, N> {
             plan,
             backlog: VecDeque::from_vec(items),
             queues,
-            hands,
+            worker_slots,
             slots,
             returned,
             stopped: false,
@@ -267,7 +268,7 @@ fn most_events(count: usize, stages: usize, workers: usize) -> Option<usize>
     moves.checked_add(workers)?.checked_add(1)
 }
 
-// Puts a value after a queue that has room.
+// Puts a value at the end of a queue that isn't full.
 fn put<T: Drop>(queue: &mut Queue<T>, value: T)
     requires { nat_le queue.old.1 (length queue.old.0) ≡ false }
     ensures { queue.new ≡ (queue.old.0 ++ value ∷ [], queue.old.1) }

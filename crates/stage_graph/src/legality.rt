@@ -11,7 +11,7 @@ use stage_queue::Memory;
 use std::alloc::{AllocError, Global};
 use std::marker::Brand;
 
-/// What a history is, or where its first event stands that isn't allowed.
+/// Whether a history is legal, or else the place of its first event that isn't allowed.
 #[derive(Clone, Copy, PartialEq, Eq, Debug)]
 pub enum Checked {
     Legal,

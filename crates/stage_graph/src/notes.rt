@@ -128,7 +128,7 @@ struct Head<T, J: Naming> {
     ghost head_is: { head ≡ head_of J.book },
 }
 
-/// A beginning of what stands in a register.
+/// The first entries of a register.
 #[derive(Drop)]
 struct Front<T, J: Naming> {
     len: u64,

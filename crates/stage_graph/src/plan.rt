@@ -6,8 +6,8 @@ ghost use Rattle.stage_graph.specs.Floors.{idle_before};
 ghost use Rattle.stage_graph.specs.After.{last_cut};
 ghost use Rattle.stage_graph.specs.PlanFaults.{plan_fault, AnswersFault};
 ghost use Rattle.stage_graph.specs.Layouts.{layout_of, is_rising, are_within, posts_of, IsPlan, stages, workers};
-ghost use Rattle.stage_graph.specs.Layouts.{stage_at, cut_at, capacity_at, IsLotSize};
-ghost use Rattle.stage_graph.specs.Through.{IsFloorInLots};
+ghost use Rattle.stage_graph.specs.Layouts.{stage_at, cut_at, capacity_at, IsChunkSize};
+ghost use Rattle.stage_graph.specs.Through.{IsFloorInChunks};
 
 use stage_queue::Memory;
 use std::alloc::{AllocError, Global};
@@ -24,7 +24,7 @@ pub struct Plan {
 }
 
 impl Model for Plan {
-    ghost use Rattle.stage_graph.specs.Layouts.{Layout, IsPlan, HasRoom};
+    ghost use Rattle.stage_graph.specs.Layouts.{Layout, IsPlan, HasCapacity};
 
     ghost Value = { Layout };
 
@@ -32,7 +32,7 @@ impl Model for Plan {
 
     ghost invariant = { λ p. IsPlan
         (record { cuts = p.cuts.items; posts = p.posts.items; capacities = p.capacities.items })
-        × HasRoom (record { cuts = p.cuts.items; posts = p.posts.items; capacities = p.capacities.items }) };
+        × HasCapacity (record { cuts = p.cuts.items; posts = p.posts.items; capacities = p.capacities.items }) };
 }
 
 /// Why there is no plan: the first of these, in this order.
@@ -56,21 +56,21 @@ pub enum PlanFault {
 }
 
 impl Plan {
-    /// The plan whose stage s ends where `cuts[s]` steps are done, with `crews[s]` workers and a queue of
+    /// The plan whose stage s ends where `cuts[s]` steps are done, with `worker_counts[s]` workers and a queue of
     /// `capacities[s]` items.
     pub fn new(
         alloc: Global,
         cuts: &[usize],
-        crews: &[usize],
+        worker_counts: &[usize],
         capacities: &[usize],
     ) -> Result<Plan, PlanFault>
-        ensures ok { IfOk result (λ p. p ≡ layout_of cuts.now crews.now capacities.now) }
-        ensures fault { AnswersFault (plan_fault cuts.now crews.now capacities.now) result }
+        ensures ok { IfOk result (λ p. p ≡ layout_of cuts.now worker_counts.now capacities.now) }
+        ensures fault { AnswersFault (plan_fault cuts.now worker_counts.now capacities.now) result }
     {
-        if let Some(fault) = plan_fault(cuts, crews, capacities) {
+        if let Some(fault) = plan_fault(cuts, worker_counts, capacities) {
             return Err(fault);
         }
-        match laid_out(alloc, cuts, crews, capacities) {
+        match laid_out(alloc, cuts, worker_counts, capacities) {
             Ok(plan) => Ok(plan),
             Err(_) => Err(PlanFault::Memory),
         }
@@ -90,17 +90,17 @@ impl Plan {
         })
     }
 
-    // The plan of the floor on which items travel in lots of at most so many: each queue has room for one lot at
-    // least, and for no more items than before.
-    pub(crate) fn in_lots(&self, alloc: Global, size: usize) -> Result<Plan, Memory>
-        requires { IsLotSize self.now size }
-        ensures { IfOk result (IsFloorInLots self.now size) }
+    // The plan of the floor on which items travel in chunks of at most so many: each queue has capacity for one chunk
+    // at least, and for no more items than before.
+    pub(crate) fn in_chunks(&self, alloc: Global, size: usize) -> Result<Plan, Memory>
+        requires { IsChunkSize self.now size }
+        ensures { IfOk result (IsFloorInChunks self.now size) }
     {
         let cuts = Vec::from_slice(alloc, &self.cuts)?;
         let posts = Vec::from_slice(alloc, &self.posts)?;
         let mut capacities = Vec::with_capacity(alloc, self.capacities.len())?;
         for capacity in &self.capacities {
-            capacities.push_reserved(lots_within(*capacity, size));
+            capacities.push_reserved(chunks_within(*capacity, size));
         }
         Ok(Plan {
             cuts,
@@ -109,10 +109,10 @@ impl Plan {
         })
     }
 
-    /// The least capacity of a queue, or this number if that is less: a lot of so many items has room in each queue.
+    /// The least capacity of a queue, or this number if that is less: a chunk of so many items fits into each queue.
     pub fn least_capacity(&self, most: usize) -> usize
         requires { 0 < most }
-        ensures { IsLotSize self.now result }
+        ensures { IsChunkSize self.now result }
     {
         let mut least = most;
         for stage in 0..self.capacities.len() {
@@ -177,13 +177,13 @@ impl Plan {
         self.capacities[stage]
     }
 
-    // Whether no worker of a stage before this one has a number in its hand.
-    pub(crate) fn is_idle_before(&self, stage: usize, hands: &[Option<usize>]) -> bool
-        requires { length hands.now ≡ workers self.now }
-        ensures { result ≡ idle_before stage self.now.posts hands.now }
+    // Whether no worker of a stage before this one has a number in its slot.
+    pub(crate) fn is_idle_before(&self, stage: usize, worker_slots: &[Option<usize>]) -> bool
+        requires { length worker_slots.now ≡ workers self.now }
+        ensures { result ≡ idle_before stage self.now.posts worker_slots.now }
     {
         for worker in 0..self.posts.len() {
-            if !is_idle(stage, self.posts[worker], hands[worker].is_none()) {
+            if !is_idle(stage, self.posts[worker], worker_slots[worker].is_none()) {
                 return false;
             }
         }
@@ -197,8 +197,8 @@ fn is_idle(stage: usize, post: usize, free: bool) -> bool
     stage <= post || free
 }
 
-fn plan_fault(cuts: &[usize], crews: &[usize], capacities: &[usize]) -> Option<PlanFault>
-    ensures { result ≡ plan_fault cuts.now crews.now capacities.now }
+fn plan_fault(cuts: &[usize], worker_counts: &[usize], capacities: &[usize]) -> Option<PlanFault>
+    ensures { result ≡ plan_fault cuts.now worker_counts.now capacities.now }
 {
     if cuts.is_empty() {
         return Some(PlanFault::Empty);
@@ -206,7 +206,7 @@ fn plan_fault(cuts: &[usize], crews: &[usize], capacities: &[usize]) -> Option<P
     if !is_rising(cuts) {
         return Some(PlanFault::Order);
     }
-    if !are_within(16, cuts.len(), crews) {
+    if !are_within(16, cuts.len(), worker_counts) {
         return Some(PlanFault::Workers);
     }
     if !are_within(4096, cuts.len(), capacities) {
@@ -244,14 +244,14 @@ fn all_within(limit: usize, numbers: &[usize]) -> bool
 fn laid_out(
     alloc: Global,
     cuts: &[usize],
-    crews: &[usize],
+    worker_counts: &[usize],
     capacities: &[usize],
 ) -> Result<Plan, AllocError>
-    requires { plan_fault cuts.now crews.now capacities.now ≡ None }
-    ensures { IfOk result (λ p. p ≡ layout_of cuts.now crews.now capacities.now) }
+    requires { plan_fault cuts.now worker_counts.now capacities.now ≡ None }
+    ensures { IfOk result (λ p. p ≡ layout_of cuts.now worker_counts.now capacities.now) }
 {
     let cuts = Vec::from_slice(alloc, cuts)?;
-    let posts = posts_of(alloc, crews)?;
+    let posts = posts_of(alloc, worker_counts)?;
     let capacities = Vec::from_slice(alloc, capacities)?;
     Ok(Plan {
         cuts,
@@ -261,30 +261,30 @@ fn laid_out(
 }
 
 // The stage of each worker.
-fn posts_of(alloc: Global, crews: &[usize]) -> Result<Vec<usize>, AllocError>
-    ensures { IfOk result (λ v. v.items ≡ posts_of 0 crews.now) }
+fn posts_of(alloc: Global, worker_counts: &[usize]) -> Result<Vec<usize>, AllocError>
+    ensures { IfOk result (λ v. v.items ≡ posts_of 0 worker_counts.now) }
 {
     let mut posts = Vec::new(alloc);
-    for stage in 0..crews.len() {
-        add_crew(&mut posts, stage, crews[stage])?;
+    for stage in 0..worker_counts.len() {
+        add_workers(&mut posts, stage, worker_counts[stage])?;
     }
     Ok(posts)
 }
 
-fn add_crew(posts: &mut Vec<usize>, stage: usize, crew: usize) -> Result<(), AllocError>
-    ensures { OnOk result (posts.new.items ≡ posts.old.items ++ replicate crew stage) }
+fn add_workers(posts: &mut Vec<usize>, stage: usize, worker_count: usize) -> Result<(), AllocError>
+    ensures { OnOk result (posts.new.items ≡ posts.old.items ++ replicate worker_count stage) }
 {
-    for _ in 0..crew {
+    for _ in 0..worker_count {
         posts.push(stage)?;
     }
     Ok(())
 }
 
-// How many lots of this size have no more items than that.
-fn lots_within(capacity: usize, size: usize) -> usize
+// How many chunks of this size have no more items than that.
+fn chunks_within(capacity: usize, size: usize) -> usize
     requires { (0 < size) × (size ≤ capacity) }
     ensures some { 0 < result }
-    ensures room { result * size ≤ capacity }
+    ensures fits { result * size ≤ capacity }
 {
     capacity / size
 }

@@ -7,13 +7,13 @@ ghost use Rattle.stage_graph.specs.Floors.{standing, all_left};
 ghost use Rattle.stage_graph.specs.After.{with_steps, last_cut};
 ghost use Rattle.stage_graph.specs.Through.{IsStopped, IsWhole, HasGoneThrough};
 
-use crate::crew::{Crew, beside, end};
+use crate::helpers::{Helpers, beside, end};
 use crate::{Chain, Event, Floor, Named, Plan, Run, RunName, Unrun};
 use std::alloc::Global;
 use std::sync::Wait;
 use std::thread::Threads;
 
-/// Is told where items go. Its calls stand outside the floor's lock.
+/// Is notified of where items go. It is called without the floor's lock.
 pub trait Gate {
     /// An item was taken by a worker of a stage, which works on it next.
     fn enter(&self, stage: usize, number: usize);
@@ -23,7 +23,7 @@ pub trait Gate {
     fn left(&self, stage: usize, number: usize);
 
     /// Whether it never holds an item: whether each of its calls returns without waiting for another. Then items may
-    /// travel together, and a worker's next item may enter before it is told that the last one left.
+    /// travel together, and a worker's next item may enter before it is notified that the last one left.
     fn is_open(&self) -> bool {
         false
     }
@@ -33,8 +33,8 @@ pub trait Gate {
         false
     }
 
-    /// A floor of this plan has ended, on which so many items went through all stages, in lots. This is its history; an
-    /// event's number is that of a lot.
+    /// A floor of this plan has ended, on which so many items went through all stages, in chunks. This is its history;
+    /// an event's number is that of a chunk.
     fn ended(&self, _plan: &Plan, _count: usize, _history: &[Event])
         requires { HasGoneThrough _plan.now _count _history.now }
     {}
@@ -61,8 +61,8 @@ impl Gate for NoGate {
 /// Runs a floor to its end: every item goes through all steps of the chain, by the workers of the plan, for which
 /// there are as many threads, the calling one among them.
 ///
-/// A thread that is free takes an item at the last stage that has one and a worker whose hand is empty, works up to
-/// the stage's cut and gives it on. Who finds the next queue full waits until there is room. Where the chain refuses a
+/// A thread that is free takes an item at the last stage that has one and a worker whose slot is empty, works up to
+/// the stage's cut and gives it on. Who finds the next queue full waits until it isn't. Where the chain refuses a
 /// step, or the next queue is full on a stopped floor, the item is sent back. Where a thread can't be started, there
 /// is one fewer, and the floor goes on. It may wait.
 pub fn run_floor<
@@ -89,11 +89,11 @@ where
 {
     let own = plan.try_clone(alloc)?;
     let count = items.len();
-    let helpers = plan.workers().saturating_sub(1);
+    let helper_count = plan.workers().saturating_sub(1);
     let floor = Floor::<C, N>::open(alloc, plan, items)?;
-    let crew = Crew::new(rt, alloc, chain, gate);
-    crew.lay(floor.into_held())?;
-    let held = beside(&crew, helpers, &mut || crew.moved());
+    let helpers = Helpers::new(rt, alloc, chain, gate);
+    helpers.lay(floor.into_held())?;
+    let held = beside(&helpers, helper_count, &mut || helpers.moved());
     end::<C, N>(&own, count, held)
 }
 

@@ -10,7 +10,7 @@ use thiserror::Error;
 /// Why there is no run. The items are dropped.
 #[derive(Drop, Debug, Error)]
 pub enum Unrun {
-    /// Memory ran out: from `run_floor`, before any worker had started; from `Crew::run` also after the floor.
+    /// Memory ran out: from `run_floor`, before any worker had started; from `Helpers::run` also after the floor.
     #[error("out of memory")]
     Memory,
     /// The floor was stopped. Its history has a `Back` or a `Halt`.

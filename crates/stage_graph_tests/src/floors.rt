@@ -13,20 +13,20 @@ use std::marker::Brand;
 use std::process::Abort;
 use std::test::*;
 
-/// The cuts, crews and capacities of a plan.
+/// The cuts, numbers of workers and capacities of a plan.
 pub type Lists = (&'static [usize], &'static [usize], &'static [usize]);
 
 // A plan that no test has fail unless it is out of memory.
 pub fn plan_of(
     alloc: Global,
     cuts: &[usize],
-    crews: &[usize],
+    worker_counts: &[usize],
     capacities: &[usize],
 ) -> Option<Plan> {
-    Plan::new(alloc, cuts, crews, capacities).ok()
+    Plan::new(alloc, cuts, worker_counts, capacities).ok()
 }
 
-// The first fault of a plan's lists: its cuts, crews and capacities.
+// The first fault of a plan's lists: its cuts, numbers of workers and capacities.
 static FAULTS: [(Lists, Option<PlanFault>); 10] = [
     ((&[], &[17], &[0]), Some(PlanFault::Empty)),
     ((&[2, 2], &[17], &[0]), Some(PlanFault::Order)),
@@ -43,8 +43,8 @@ static FAULTS: [(Lists, Option<PlanFault>); 10] = [
 #[test]
 fn plan_faults_in_order(rt: HostRuntime) {
     for (lists, fault) in &FAULTS {
-        let (cuts, crews, capacities) = *lists;
-        let found = Plan::new(rt.alloc(), cuts, crews, capacities).err();
+        let (cuts, worker_counts, capacities) = *lists;
+        let found = Plan::new(rt.alloc(), cuts, worker_counts, capacities).err();
         assert_eq!(rt; found, *fault);
     }
 }

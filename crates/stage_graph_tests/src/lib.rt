@@ -4,11 +4,11 @@
 #[cfg(test)]
 mod adding;
 #[cfg(test)]
-mod crews;
-#[cfg(test)]
 mod floors;
 #[cfg(test)]
 mod gates;
+#[cfg(test)]
+mod helpers;
 #[cfg(test)]
 mod memory;
 #[cfg(test)]

@@ -1,7 +1,7 @@
 //! Out of memory: `checks/refuse_growths.py` refuses each growth of these tests in turn.
 
-use crate::crews::{FLOORS, growing_floors};
 use crate::floors::{Course, Lists, history_of};
+use crate::helpers::{FLOORS, growing_floors};
 use crate::threads::{sums, verdict};
 use stage_graph::{Checked, Event, NoGate, Plan, PlanFault, Unrun, replay_history};
 use std::alloc::Global;
@@ -65,10 +65,10 @@ fn each_growth_refused_of_threads(rt: HostRuntime) {
     }
 }
 
-/// Floors that a crew moves, whose steps take memory: all lots arrive, or memory ran out, or the floor was stopped by a
-/// step that was refused it, and its history is legal.
+/// Floors that helper threads move, whose steps take memory: all chunks arrive, or memory ran out, or the floor was
+/// stopped by a step that was refused it, and its history is legal.
 #[test]
-fn each_growth_refused_of_crews(rt: HostRuntime) {
+fn each_growth_refused_of_helpers(rt: HostRuntime) {
     let alloc = rt.alloc();
     match growing_floors(&rt, alloc) {
         Ok(()) | Err(Unrun::Memory) => {}

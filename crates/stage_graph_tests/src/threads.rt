@@ -117,12 +117,12 @@ fn every_cut(rt: HostRuntime) -> Result<(), Fail> {
     let inputs = [7, 0, 3, u64::MAX, 5, 12, 1 << 62, 4, 9, 2, 8, 6];
     let cuts: [&[usize]; 4] = [&[3], &[1, 3], &[2, 3], &[1, 2, 3]];
     for cuts in cuts {
-        for crew in 1..5usize {
+        for worker_count in 1..5usize {
             for capacity in 1..4usize {
                 let stages = cuts.len().min(3);
-                let crews = &[crew, crew, crew][..stages];
+                let worker_counts = &[worker_count, worker_count, worker_count][..stages];
                 let capacities = &[capacity, capacity, capacity][..stages];
-                try_plan(&rt, rt.alloc(), (cuts, crews, capacities), &inputs)?;
+                try_plan(&rt, rt.alloc(), (cuts, worker_counts, capacities), &inputs)?;
             }
         }
     }

@@ -8,9 +8,10 @@ ghost use Rattle.stage_graph.specs.Steps.{value_of};
 ghost use Rattle.stage_graph.specs.Counts.{places_of, KeepsBounds, takes_of, feeds_of, gives_of};
 ghost use Rattle.stage_graph.specs.Layouts.{Layout, IsPlan, stages, workers, stage_at, cut_at, cut_before, capacity_at};
 ghost use Rattle.stage_graph.specs.Layouts.{is_last};
-ghost use Rattle.stage_graph.specs.Floors.{standing, queue_at, hand_at, has_left, is_nil, idle_before, is_drained};
-ghost use Rattle.stage_graph.specs.Floors.{is_at, first, is_allowed, feed_cause, take_cause, give_cause, back_cause};
-ghost use Rattle.stage_graph.specs.Floors.{leave_cause, halt_cause, is_legal_from_opening, all_left, all_done};
+ghost use Rattle.stage_graph.specs.Floors.{standing, queue_at, worker_slot_at, has_left, is_nil, idle_before};
+ghost use Rattle.stage_graph.specs.Floors.{is_drained, is_at, first, is_allowed, feed_cause, take_cause, give_cause};
+ghost use Rattle.stage_graph.specs.Floors.{back_cause, leave_cause, halt_cause, is_legal_from_opening, all_left};
+ghost use Rattle.stage_graph.specs.Floors.{all_done};
 ghost use Rattle.stage_graph.specs.Floors.{has_stop};
 
 use super::{Floor, RunName};
@@ -47,16 +48,16 @@ impl<C: Chain, N: RunName> Floor<C, N> {
 
     pub(super) fn is_busy(&self, worker: usize) -> bool
         requires { worker < workers N.plan }
-        ensures { result ≡ is_some (hand_at (standing N.plan N.count self.now) worker) }
+        ensures { result ≡ is_some (worker_slot_at (standing N.plan N.count self.now) worker) }
     {
-        self.hands[worker].is_some()
+        self.worker_slots[worker].is_some()
     }
 
     pub(super) fn holds(&self, worker: usize, number: usize) -> bool
         requires { worker < workers N.plan }
-        ensures { result ≡ is_at (hand_at (standing N.plan N.count self.now) worker) number }
+        ensures { result ≡ is_at (worker_slot_at (standing N.plan N.count self.now) worker) number }
     {
-        match self.hands[worker] {
+        match self.worker_slots[worker] {
             Some(held) => held == number,
             None => false,
         }
@@ -132,7 +133,7 @@ impl<C: Chain, N: RunName> Floor<C, N> {
     {
         self.has_no_backlog()
             && self.are_queues_empty(stage)
-            && self.plan.is_idle_before(stage, &self.hands)
+            && self.plan.is_idle_before(stage, &self.worker_slots)
     }
 
     pub(super) fn are_queues_empty(&self, stage: usize) -> bool

@@ -8,9 +8,10 @@ ghost use Rattle.stage_graph.specs.Steps.{value_of};
 ghost use Rattle.stage_graph.specs.Counts.{places_of, KeepsBounds, takes_of, feeds_of, gives_of};
 ghost use Rattle.stage_graph.specs.Layouts.{Layout, IsPlan, stages, workers, stage_at, cut_at, cut_before, capacity_at};
 ghost use Rattle.stage_graph.specs.Layouts.{is_last};
-ghost use Rattle.stage_graph.specs.Floors.{standing, queue_at, hand_at, has_left, is_nil, idle_before, is_drained};
-ghost use Rattle.stage_graph.specs.Floors.{is_at, first, is_allowed, feed_cause, take_cause, give_cause, back_cause};
-ghost use Rattle.stage_graph.specs.Floors.{leave_cause, halt_cause, is_legal_from_opening, all_left, all_done};
+ghost use Rattle.stage_graph.specs.Floors.{standing, queue_at, worker_slot_at, has_left, is_nil, idle_before};
+ghost use Rattle.stage_graph.specs.Floors.{is_drained, is_at, first, is_allowed, feed_cause, take_cause, give_cause};
+ghost use Rattle.stage_graph.specs.Floors.{back_cause, leave_cause, halt_cause, is_legal_from_opening, all_left};
+ghost use Rattle.stage_graph.specs.Floors.{all_done};
 ghost use Rattle.stage_graph.specs.Floors.{has_stop};
 
 use super::{Floor, RunName, put};
@@ -37,7 +38,7 @@ impl<C: Chain, N: RunName> Floor<C, N> {
         Ok(())
     }
 
-    /// The first item of the worker's queue goes into its hand.
+    /// The first item of the worker's queue goes into its slot.
     pub fn take(&mut self, worker: usize) -> Result<C::Item, Cause>
         requires { worker < workers N.plan }
         ensures ok { IfOk result
@@ -59,12 +60,12 @@ impl<C: Chain, N: RunName> Floor<C, N> {
             return Err(Cause::Empty);
         };
         let number = item.number();
-        self.hands[worker] = Some(number);
+        self.worker_slots[worker] = Some(number);
         self.history.push_reserved(Event::Take(worker, number));
         Ok(item)
     }
 
-    /// The item goes from the worker's hand to the next queue, or is done after the last stage.
+    /// The item goes from the worker's slot to the next queue, or is done after the last stage.
     pub fn give(&mut self, worker: usize, item: C::Item) -> Result<(), (Cause, C::Item)>
         requires { worker < workers N.plan }
         ensures ok { OnOk result
@@ -98,7 +99,7 @@ impl<C: Chain, N: RunName> Floor<C, N> {
     {
         let number = item.number();
         let _placed = self.slots.place(number, item);
-        self.hands[worker] = None;
+        self.worker_slots[worker] = None;
         self.history.push_reserved(Event::Give(worker, number));
     }
 
@@ -114,11 +115,11 @@ impl<C: Chain, N: RunName> Floor<C, N> {
         let number = item.number();
         let next = self.plan.stage(worker) + 1;
         put(&mut self.queues[next], item);
-        self.hands[worker] = None;
+        self.worker_slots[worker] = None;
         self.history.push_reserved(Event::Give(worker, number));
     }
 
-    /// The item goes from the worker's hand to the returned items, and the floor is stopped.
+    /// The item goes from the worker's slot to the returned items, and the floor is stopped.
     pub fn back(&mut self, worker: usize, item: C::Item) -> Result<(), (Cause, C::Item)>
         requires { worker < workers N.plan }
         ensures ok { OnOk result
@@ -134,7 +135,7 @@ impl<C: Chain, N: RunName> Floor<C, N> {
             return Err((cause, item));
         }
         self.returned.push_reserved(item);
-        self.hands[worker] = None;
+        self.worker_slots[worker] = None;
         self.stopped = true;
         self.history.push_reserved(Event::Back(worker, number));
         Ok(())

@@ -2,7 +2,7 @@
 
 ghost use Rattle.std.specs.Prelude.{◌≡◌, ◌≤◌, ◌<◌, length, IsTrue, IfSome, IfNone, IfOk};
 ghost use Rattle.stage_graph.specs.Layouts.{workers};
-ghost use Rattle.stage_graph.specs.Crews.{FloorRecord};
+ghost use Rattle.stage_graph.specs.Helpers.{FloorRecord};
 
 use super::{Floor, RunName};
 use crate::{Chain, Event, Named, Plan};
@@ -16,7 +16,7 @@ pub(crate) struct Held<C: Chain> {
     plan: Plan,
     backlog: VecDeque<C::Item>,
     queues: Vec<Queue<C::Item>>,
-    hands: Vec<Option<usize>>,
+    worker_slots: Vec<Option<usize>>,
     slots: Slots<C::Item>,
     returned: Vec<C::Item>,
     stopped: bool,
@@ -28,7 +28,7 @@ impl<C: Chain> Model for Held<C> {
     ghost use Rattle.std.specs.Prelude.{◌≤◌, length, vec_capacity};
     ghost use Rattle.stage_graph.specs.Floors.{most_events};
     ghost use Rattle.stage_graph.specs.After.{FloorAfter};
-    ghost use Rattle.stage_graph.specs.Crews.{FloorRecord};
+    ghost use Rattle.stage_graph.specs.Helpers.{FloorRecord};
 
     ghost Value = { FloorRecord };
 
@@ -39,7 +39,7 @@ impl<C: Chain> Model for Held<C> {
         (record {
           backlog = h.backlog.items;
           queues = h.queues.items;
-          hands = h.hands.items;
+          worker_slots = h.worker_slots.items;
           slots = h.slots;
           returned = h.returned.items;
           stopped = h.stopped;
@@ -49,7 +49,7 @@ impl<C: Chain> Model for Held<C> {
         × (length h.slots ≤ vec_capacity h.returned) };
 }
 
-/// A lot in the hand of a worker, with the worker's stage, and the steps that are done where the stage ends. It can't
+/// A chunk in the slot of a worker, with the worker's stage, and the steps that are done where the stage ends. It can't
 /// be dropped: who has it works on it.
 pub(crate) struct Picked<C: Chain> {
     pub(crate) worker: usize,
@@ -70,7 +70,7 @@ impl<C: Chain> Held<C> {
             plan,
             backlog,
             queues,
-            hands,
+            worker_slots,
             slots,
             returned,
             stopped,
@@ -81,7 +81,7 @@ impl<C: Chain> Held<C> {
             plan,
             backlog,
             queues,
-            hands,
+            worker_slots,
             slots,
             returned,
             stopped,
@@ -100,7 +100,7 @@ impl<C: Chain> Held<C> {
 
     /// How many workers there are.
     pub(crate) fn workers(&self) -> usize {
-        self.hands.len()
+        self.worker_slots.len()
     }
 
     /// Whether it is stopped.
@@ -110,7 +110,10 @@ impl<C: Chain> Held<C> {
 
     /// Whether no worker has an item, and none is to come.
     pub(crate) fn is_over(&self) -> bool {
-        self.hands.iter().all(|hand| hand.is_none()) && (self.stopped || self.slots.is_full())
+        self.worker_slots
+            .iter()
+            .all(|worker_slot| worker_slot.is_none())
+            && (self.stopped || self.slots.is_full())
     }
 }
 
@@ -123,7 +126,7 @@ impl<C: Chain, N: RunName> Floor<C, N> {
             plan,
             backlog,
             queues,
-            hands,
+            worker_slots,
             slots,
             returned,
             stopped,
@@ -135,7 +138,7 @@ impl<C: Chain, N: RunName> Floor<C, N> {
             plan,
             backlog,
             queues,
-            hands,
+            worker_slots,
             slots,
             returned,
             stopped,

@@ -6,4 +6,4 @@ use Rattle.replay.proofs.back.add_replies.Given as goal
 
 abbrev pub invariant-loop-item : goal.invariant-loop-item
 invariant-loop-item g l = l.replies.items ++ flat_map (λ x. reply_in x.state) (into_iter_items l.item-iterator)
-    ≡ l.fn.replies.items ++ flat_map (λ x. reply_in x.state) l.fn.lot.back.items
+    ≡ l.fn.replies.items ++ flat_map (λ x. reply_in x.state) l.fn.chunk.back.items

@@ -18,17 +18,17 @@ pub decide-requires-clause-clock : goal.decide-requires-clause-clock
 decide-requires-clause-clock g c =
     subst (λ t. c.args.decider.now.controller.clock ≤ t) c.tick.ensures.value (c.requires.stands.2 c.tick.result c.tick.ensures.rises)
 
-pub note-requires-clause-counts : goal.note-requires-clause-counts
-note-requires-clause-counts g c =
+pub record_reply-requires-clause-counts : goal.record_reply-requires-clause-counts
+record_reply-requires-clause-counts g c =
     let files = g.F.Tree.files in let terms = c.args.server.now.served in
     let given = c.requires.stands in
-    let judged = c.in_ok-due.ensures.given_by (offers_of files terms given.0) given.1.fits (samples_are files terms given.0 c.args.decider.now given.1) in
+    let judged = c.in_ok-answer.ensures.given_by (offers_of files terms given.0) given.1.fits (samples_are files terms given.0 c.args.decider.now given.1) in
     let few = given.1.few in
-    let kept = counts_kept _ files terms given.0 c.args.origin c.args.what.now c.args.decider.now c.decide.new.self (given_by c.in_ok-due.due) 18446744073709551615 given.1 judged (omega (arith, few)) in
+    let kept = counts_kept _ files terms given.0 c.args.origin c.args.what.now c.args.decider.now c.decide.new.self (given_by c.in_ok-answer.answer) 18446744073709551615 given.1 judged (omega (arith, few)) in
     kept.0
 
 pub returns-clause-stands : goal.returns-clause-stands
 returns-clause-stands g c = λ arrivals a stands from meaning.
     let files = g.F.Tree.files in let terms = c.args.server.now.served in
-    let judged = c.in_ok-due.ensures.given_by (offers_of files terms arrivals) stands.fits (samples_are files terms arrivals c.args.decider.now stands) in
-    stands_after _ files terms arrivals a c.args.origin c.args.what.now c.args.decider.now c.decide.new.self c.note.new.self (given_by c.in_ok-due.due) stands (rw from c.requires.stands.2) from meaning c.requires.few judged c.note.ensures
+    let judged = c.in_ok-answer.ensures.given_by (offers_of files terms arrivals) stands.fits (samples_are files terms arrivals c.args.decider.now stands) in
+    stands_after _ files terms arrivals a c.args.origin c.args.what.now c.args.decider.now c.decide.new.self c.record_reply.new.self (given_by c.in_ok-answer.answer) stands (rw from c.requires.stands.2) from meaning c.requires.few judged c.record_reply.ensures

@@ -1,7 +1,7 @@
 use Rattle.std.proofs.Common.{◌∙◌, refl, rules}
 use Rattle.arrivals.proofs.Laid.{none_left}
 use Rattle.replay.specs.Backs.{is_back}
-use Rattle.replay.specs.declared.back.BackState.TheVariants.{Due as Waits}
+use Rattle.replay.specs.declared.back.BackState.TheVariants.{Pending}
 use Rattle.replay.proofs.OneByOne.{each_none, each_more, each_part, each_all, each_ready}
 use Rattle.replay.proofs.Judging.{on_err}
 use Rattle.replay.proofs.direct.answer_each.Goals as goal
@@ -11,7 +11,7 @@ loop-pending-init g c = (each_none _ _ _ _ (search rules), refl)
 
 pub answer_pending-requires-clause-ready : goal.answer_pending-requires-clause-ready
 answer_pending-requires-clause-ready g c =
-    each_ready (λ t. is_back g.F.Tree.files (Waits t)) g.F.Tree.files _ c.in-Some.pending _ _ _ _ c.loop-pending.invariant.0 c.in-Some.ensures.steps.0 c.requires.ready
+    each_ready (λ t. is_back g.F.Tree.files (Pending t)) g.F.Tree.files _ c.in-Some.pending _ _ _ _ c.loop-pending.invariant.0 c.in-Some.ensures.steps.0 c.requires.ready
 
 pub loop-pending-preserved : goal.loop-pending-preserved
 loop-pending-preserved g c = (

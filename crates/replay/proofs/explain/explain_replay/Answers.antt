@@ -7,7 +7,7 @@ use Rattle.replay.proofs.Judging.{if_ok}
 use Rattle.replay.proofs.explain.explain_replay.Goals as goal
 use Rattle.paths.specs.declared.file.File.{File}
 
--- what was told is the table
+-- what was reported is the table
 explains_written : (files : List File) (terms : Terms) (input old new : Option (List ℕ)) (outcome : Outcome)
     → WritesWhole (row_texts files terms) files terms input old new outcome → Explains files terms input old new outcome
 explains_written files terms input old new outcome h = record { read = h.read; written = h.written; outcome_is = h.outcome_is }

@@ -4,7 +4,7 @@ use Rattle.std.specs.Vec.Iter.{into_iter_items}
 use Rattle.replay.specs.declared.lookup.LookedUp.{LookedUp}
 use Rattle.replay.proofs.front.lookups_of.Given as goal
 
-abbrev pub invariant-loop-lot : goal.invariant-loop-lot
-invariant-loop-lot g l =
-    l.lookups.items ++ flat_map (λ lot. map {B = LookedUp} (λ x. record { message = x.message; lookup = x.lookup }) lot.front.items) (into_iter_items l.lot-iterator)
-    ≡ flat_map (λ lot. map {B = LookedUp} (λ x. record { message = x.message; lookup = x.lookup }) lot.front.items) l.fn.lots.items
+abbrev pub invariant-loop-chunk : goal.invariant-loop-chunk
+invariant-loop-chunk g l =
+    l.lookups.items ++ flat_map (λ chunk. map {B = LookedUp} (λ x. record { message = x.message; lookup = x.lookup }) chunk.front.items) (into_iter_items l.chunk-iterator)
+    ≡ flat_map (λ chunk. map {B = LookedUp} (λ x. record { message = x.message; lookup = x.lookup }) chunk.front.items) l.fn.chunks.items

@@ -8,6 +8,6 @@ use Rattle.replay.proofs.groups.divided.Given as goal
 abbrev pub invariant-loop-pending : goal.invariant-loop-pending
 invariant-loop-pending g l = record {
   all : all_of l.groups.items ++ l.group.items ++ into_iter_items l.pending-iterator ≡ l.fn.pending_replies.items;
-  are : AreGroups (page_len l.fn.snapshot) l.fn.room (l.groups.items ++ l.group.items ∷ []);
+  are : AreGroups (page_len l.fn.snapshot) l.fn.capacity (l.groups.items ++ l.group.items ∷ []);
   held : l.held ≡ sum_by (page_len l.fn.snapshot) l.group.items;
 }

@@ -1,6 +1,6 @@
 use Rattle.std.proofs.Common.{◌∙◌, refl, rules}
 use Rattle.replay.specs.Backs.{is_back}
-use Rattle.replay.specs.declared.back.BackState.TheVariants.{Due as Waits}
+use Rattle.replay.specs.declared.back.BackState.TheVariants.{Pending}
 use Rattle.arrivals.proofs.Laid.{none_left}
 use Rattle.replay.proofs.Grouping.{answered_none, answered_more, answered_part, answered_all, group_ready}
 use Rattle.replay.proofs.Judging.{on_err}
@@ -11,7 +11,7 @@ loop-group-init g c = (answered_none _ _ _ _ (search rules), refl)
 
 pub answer_group-requires-clause-ready : goal.answer_group-requires-clause-ready
 answer_group-requires-clause-ready g c =
-    rw c.into_vec.ensures (group_ready (λ t. is_back g.F.Tree.files (Waits t)) g.F.Tree.files _ c.in-Some.group _ _ _ _ c.loop-group.invariant.0 c.in-Some.ensures.steps.0 c.requires.ready)
+    rw c.into_vec.ensures (group_ready (λ t. is_back g.F.Tree.files (Pending t)) g.F.Tree.files _ c.in-Some.group _ _ _ _ c.loop-group.invariant.0 c.in-Some.ensures.steps.0 c.requires.ready)
 
 pub loop-group-preserved : goal.loop-group-preserved
 loop-group-preserved g c = (

@@ -4,11 +4,11 @@ use Rattle.replay.proofs.Judging.{answered_is, cut_short}
 use Rattle.replay.proofs.Upcoming.{come_count, first_come, take_count, take_short, ok_more, short_cut}
 use Rattle.replay.proofs.parts.serve_part.Goals as goal
 
-pub returns-then-len-room-clause-part : goal.returns-then-len-room-clause-part
-returns-then-len-room-clause-part g c =
+pub returns-then-len-left-clause-part : goal.returns-then-len-left-clause-part
+returns-then-len-left-clause-part g c =
     let messages = c.args.messages.items in
     let len : c.len.result ≡ length messages = c.len.ensures ∙ c.args.messages.ok.0 in
-    let fits = c.if-len-room.true in
+    let fits = c.if-len-left.true in
     let next = c.requires.next in
     let is = answered_is _ _ next.0 _ next.2.stands.counted in
     let few = c.requires.limit.0 in
@@ -25,49 +25,49 @@ returns-then-len-room-clause-part g c =
 pub serve_few-requires-2-clause-next : goal.serve_few-requires-2-clause-next
 serve_few-requires-2-clause-next g c =
     let next = c.requires.next in
-    let room = c.args.floors.now.most - c.args.decider.now.totals.answered in
+    let left = c.args.floors.now.most - c.args.decider.now.totals.answered in
     let is = answered_is _ _ next.0 _ next.2.stands.counted in
     let few = c.requires.limit.0 in
     let bound = c.requires.limit.1 in
-    let short = take_short room next.1 in
-    (next.0, take room next.1, first_come _ _ next.0 next.1 _ _ _ room next.2 c.truncate.ensures.items, omega (arith, is, few, bound, short))
+    let short = take_short left next.1 in
+    (next.0, take left next.1, first_come _ _ next.0 next.1 _ _ _ left next.2 c.truncate.ensures.items, omega (arith, is, few, bound, short))
 
 pub returns-in_err-serve_few-clause-part : goal.returns-in_err-serve_few-clause-part
 returns-in_err-serve_few-clause-part g c =
     let len : c.len.result ≡ length c.args.messages.items = c.len.ensures ∙ c.args.messages.ok.0 in
-    let beyond = c.if-len-room.false in
-    let room = c.args.floors.now.most - c.args.decider.now.totals.answered in
+    let beyond = c.if-len-left.false in
+    let left = c.args.floors.now.most - c.args.decider.now.totals.answered in
     let next = c.requires.next in
     let is = answered_is _ _ next.0 _ next.2.stands.counted in
     let few = c.requires.limit.0 in
     let bound = c.requires.limit.1 in
     cut_short c.from_residual.result _ (
-      room,
+      left,
       omega (arith, len, beyond),
       omega (arith, is, few, bound),
-      λ arrivals more up. c.in_err-serve_few.ensures.part arrivals (take room more) (first_come _ _ arrivals more _ _ _ room up c.truncate.ensures.items),
+      λ arrivals more up. c.in_err-serve_few.ensures.part arrivals (take left more) (first_come _ _ arrivals more _ _ _ left up c.truncate.ensures.items),
     )
 
 pub returns-clause-many : goal.returns-clause-many
 returns-clause-many g c =
     let len : c.len.result ≡ length c.args.messages.items = c.len.ensures ∙ c.args.messages.ok.0 in
-    let beyond = c.if-len-room.false in
-    let room = c.args.floors.now.most - c.args.decider.now.totals.answered in
+    let beyond = c.if-len-left.false in
+    let left = c.args.floors.now.most - c.args.decider.now.totals.answered in
     let next = c.requires.next in
     let is = answered_is _ _ next.0 _ next.2.stands.counted in
     let few = c.requires.limit.0 in
     let bound = c.requires.limit.1 in (
       refl,
-      room,
+      left,
       omega (arith, len, beyond),
       omega (arith, is, few, bound),
-      λ arrivals more up. c.in_ok-serve_few.ensures.written arrivals (take room more) (first_come _ _ arrivals more _ _ _ room up c.truncate.ensures.items),
+      λ arrivals more up. c.in_ok-serve_few.ensures.written arrivals (take left more) (first_come _ _ arrivals more _ _ _ left up c.truncate.ensures.items),
     )
 
-pub returns-then-len-room-clause-within : goal.returns-then-len-room-clause-within
-returns-then-len-room-clause-within g c =
+pub returns-then-len-left-clause-within : goal.returns-then-len-left-clause-within
+returns-then-len-left-clause-within g c =
     let len : c.len.result ≡ length c.args.messages.items = c.len.ensures ∙ c.args.messages.ok.0 in
-    let fits = c.if-len-room.true in
+    let fits = c.if-len-left.true in
     let next = c.requires.next in
     let is = answered_is _ _ next.0 _ next.2.stands.counted in
     let few = c.requires.limit.0 in

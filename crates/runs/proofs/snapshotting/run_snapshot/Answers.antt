@@ -1,46 +1,53 @@
 use Rattle.std.proofs.Common.{◌∙◌, refl}
 use Rattle.std.proofs.lemmas.Result.{err_from_is_err_and}
-use Rattle.runs.proofs.FoldersTaken.{none_begun, stopped, lacking, refused_first, stands_left, stands_taken, unended}
+use Rattle.runs.proofs.FoldersTaken.{none_begun, none_out, left_out, stopped, lacking, refused_now, stands_more, ended, unended}
 use Rattle.runs.proofs.snapshotting.run_snapshot.Goals as goal
-use Rattle.runs.proofs.snapshotting.run_snapshot.Goals.{in-Some+else-not-skip+in_ok-leave_out, in_default}
 
 pub returns-in_err-writer-clause-fault : goal.returns-in_err-writer-clause-fault
 returns-in_err-writer-clause-fault g c =
     let stop = err_from_is_err_and c.from_residual.result c.from_residual.ensures.1 in
     rw (stop.1, stop.2) (none_begun (g.F.Folder.answers c.args.folder.now) _ _ _ _ c.in_err-writer.field-0.0 c.in_err-writer.ensures.fault)
 
-pub returns-in_err-fault-clause-fault : goal.returns-in_err-fault-clause-fault
-returns-in_err-fault-clause-fault g c =
-    let stop = err_from_is_err_and c.from_residual-in_err-fault.result c.from_residual-in_err-fault.ensures.1 in
-    rw (stop.1, stop.2) (stopped (g.F.Folder.answers c.args.folder.now) _ _ _ _ _ _ _ _ _ _ c.loop-one-test.true c.one-item.is c.loop-one.invariant.0 (c.in_err-fault.ensures.fault _ _ c.loop-one.invariant.0.took))
+pub returns-in_err-writer-clause-left : goal.returns-in_err-writer-clause-left
+returns-in_err-writer-clause-left g c = rw c.clear.ensures.items (none_out (g.F.Folder.answers c.args.folder.now) c.args.found.now c.args.skip)
 
-pub returns-then-not-skip-clause-fault : goal.returns-then-not-skip-clause-fault
-returns-then-not-skip-clause-fault g c =
-    refused_first (g.F.Folder.answers c.args.folder.now) _ _ _ _ _ _ _ _ _ _ _ _ c.loop-one-test.true c.one-item.is c.if-not-skip.true c.loop-one.invariant.0
-    (rw c.in-Some.is at c.in_ok-fault.ensures.ok _ _ c.loop-one.invariant.0.took) (rw c.as_str.ensures.value at c.refused.ensures)
+pub returns-in_err-why-clause-fault : goal.returns-in_err-why-clause-fault
+returns-in_err-why-clause-fault g c =
+    let stop = err_from_is_err_and c.from_residual-in_err-why.result c.from_residual-in_err-why.ensures.1 in
+    rw (stop.1, stop.2) (stopped (g.F.Folder.answers c.args.folder.now) _ _ _ _ _ _ _ _ _ _ c.loop-one-test.true c.one-item.is c.loop-one.invariant.0 (c.in_err-why.ensures.fault _ _ c.loop-one.invariant.0.took))
 
-pub returns-in_err-leave_out-clause-fault : goal.returns-in_err-leave_out-clause-fault
-returns-in_err-leave_out-clause-fault g c =
-    let stop = err_from_is_err_and c.from_residual-in_err-leave_out.result c.from_residual-in_err-leave_out.ensures.1 in
-    rw (stop.1, stop.2) (lacking (g.F.Folder.answers c.args.folder.now) _ _ _ _ _ _ _ _ _ _ _ _ refl c.one-item.is c.loop-one.invariant.0
-    (rw c.in-Some.is at c.in_ok-fault.ensures.ok _ _ c.loop-one.invariant.0.took))
+pub returns-in_err-why-clause-left : goal.returns-in_err-why-clause-left
+returns-in_err-why-clause-left g c = left_out (g.F.Folder.answers c.args.folder.now) c.args.found.now _ c.args.skip _ _ _ _ c.loop-one.invariant.0
+
+pub returns-in_err-refuse-clause-fault : goal.returns-in_err-refuse-clause-fault
+returns-in_err-refuse-clause-fault g c =
+    let stop = err_from_is_err_and c.from_residual-in_err-refuse.result c.from_residual-in_err-refuse.ensures.1 in
+    rw (stop.1, stop.2) (refused_now (g.F.Folder.answers c.args.folder.now) _ _ _ _ _ _ _ _ _ _ _ _ c.loop-one-test.true c.one-item.is c.loop-one.invariant.0
+    (c.in_ok-why.ensures.ok _ _ c.loop-one.invariant.0.took) c.in_err-refuse.ensures.fault)
+
+pub returns-in_err-refuse-clause-left : goal.returns-in_err-refuse-clause-left
+returns-in_err-refuse-clause-left g c = left_out (g.F.Folder.answers c.args.folder.now) c.args.found.now _ c.args.skip _ _ _ _ c.loop-one.invariant.0
+
+pub returns-in_default-clause-fault : goal.returns-in_default-clause-fault
+returns-in_default-clause-fault g c =
+    lacking (g.F.Folder.answers c.args.folder.now) _ _ _ _ _ _ _ _ refl
+    (stands_more (g.F.Folder.answers c.args.folder.now) _ _ _ _ _ _ _ _ _ _ _ c.loop-one-test.true c.one-item.is c.loop-one.invariant.0 c.in_ok-refuse.ensures.ok (c.in_ok-why.ensures.ok _ _ c.loop-one.invariant.0.took))
+
+pub returns-in_default-clause-left : goal.returns-in_default-clause-left
+returns-in_default-clause-left g c = rw c.in_default.ensures.items (left_out (g.F.Folder.answers c.args.folder.now) c.args.found.now _ c.args.skip _ _ _ _ c.loop-one.invariant.0)
 
 pub loop-one-preserved : goal.loop-one-preserved
-loop-one-preserved g c =
-    elim c.match-branch-3.branch [
-      | in-Some+else-not-skip+in_ok-leave_out w ↦ (
-        rw w.skipped-is (stands_left (g.F.Folder.answers c.args.folder.now) _ _ _ _ _ _ _ _ _ _ w.in-Some.fault c.loop-one-test.true c.one-item.is w.if-not-skip.false c.loop-one.invariant.0
-            (rw w.in-Some.is at c.in_ok-fault.ensures.ok _ _ c.loop-one.invariant.0.took)),
-        c.in_ok-fault.ensures.count ∙ c.loop-one.invariant.1,
-      )
-      | in_default w ↦ (
-        rw w.skipped-is (stands_taken (g.F.Folder.answers c.args.folder.now) _ _ _ _ _ _ _ _ _ _ c.loop-one-test.true c.one-item.is c.loop-one.invariant.0
-            (rw w.in_default.is at c.in_ok-fault.ensures.ok _ _ c.loop-one.invariant.0.took)),
-        c.in_ok-fault.ensures.count ∙ c.loop-one.invariant.1,
-      )
-    ]
+loop-one-preserved g c = (
+  rw c.in-Ok.ensures.items
+      (stands_more (g.F.Folder.answers c.args.folder.now) _ _ _ _ _ _ _ _ _ _ _ c.loop-one-test.true c.one-item.is c.loop-one.invariant.0 c.in_ok-refuse.ensures.ok (c.in_ok-why.ensures.ok _ _ c.loop-one.invariant.0.took)),
+  c.in_ok-why.ensures.count ∙ c.loop-one.invariant.1,
+)
 
-pub returns-in_err-finish-clause-fault : goal.returns-in_err-finish-clause-fault
-returns-in_err-finish-clause-fault g c =
-    let stop = err_from_is_err_and c.from_residual-in_err-finish.result c.from_residual-in_err-finish.ensures.1 in
-    rw (stop.1, stop.2) (unended (g.F.Folder.answers c.args.folder.now) _ _ _ _ _ _ _ _ _ c.loop-one-test.false c.loop-one.invariant.0 (c.in_err-finish.ensures.text _ _ c.loop-one.invariant.0.took))
+pub returns-clause-ok : goal.returns-clause-ok
+returns-clause-ok g c = ended (g.F.Folder.answers c.args.folder.now) _ _ _ _ _ _ _ _ c.finish.result c.loop-one-test.false c.loop-one.invariant.0 (c.finish.ensures.text _ _ c.loop-one.invariant.0.took)
+
+pub returns-clause-fault : goal.returns-clause-fault
+returns-clause-fault g c = unended (g.F.Folder.answers c.args.folder.now) _ _ _ _ _ _ _ _ c.finish.result c.loop-one-test.false c.loop-one.invariant.0 (c.finish.ensures.text _ _ c.loop-one.invariant.0.took)
+
+pub returns-clause-left : goal.returns-clause-left
+returns-clause-left g c = left_out (g.F.Folder.answers c.args.folder.now) c.args.found.now _ c.args.skip _ _ _ _ c.loop-one.invariant.0

@@ -1,5 +1,5 @@
 use Rattle.std.proofs.Common.{arith}
-use Rattle.stage_graph.proofs.Crewing.{as_many}
+use Rattle.stage_graph.proofs.Helping.{as_many}
 use Rattle.stage_graph.proofs.run.run_floor.Goals as goal
 
 pub end-requires-clause-count : goal.end-requires-clause-count

@@ -1,6 +1,6 @@
 use Rattle.std.proofs.Common.{ap, ◌∙◌}
 use Rattle.replay.specs.Backs.{back_step, elsewhere}
-use Rattle.replay.specs.Lots.{decided_value}
+use Rattle.replay.specs.Chunks.{decided_value}
 use Rattle.replay.proofs.Lookups.{stepped_more, step_same}
 use Rattle.replay.proofs.serving.Serving.advance_all.Goals as goal
 

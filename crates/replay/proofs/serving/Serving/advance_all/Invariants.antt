@@ -1,7 +1,7 @@
 use Rattle.std.proofs.Common.{◌≡◌, ◌++◌, map}
 use Rattle.std.specs.Vec.Iter.{into_iter_items}
 use Rattle.replay.specs.Backs.{back_step}
-use Rattle.replay.specs.Lots.{decided_value}
+use Rattle.replay.specs.Chunks.{decided_value}
 use Rattle.replay.proofs.serving.Serving.advance_all.Given as goal
 
 abbrev pub invariant-loop-item : goal.invariant-loop-item

@@ -1,6 +1,6 @@
 use Rattle.std.proofs.Common.{ap}
 use Rattle.replay.specs.Fronts.{floor_step}
-use Rattle.replay.specs.Lots.{seen_value}
+use Rattle.replay.specs.Chunks.{seen_value}
 use Rattle.replay.proofs.Lookups.{stepped_more, looked_up}
 use Rattle.replay.proofs.serving.Serving.look_all.Goals as goal
 

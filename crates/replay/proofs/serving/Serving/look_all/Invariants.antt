@@ -1,7 +1,7 @@
 use Rattle.std.proofs.Common.{◌≡◌, ◌++◌, map}
 use Rattle.std.specs.Vec.Iter.{into_iter_items}
 use Rattle.replay.specs.Fronts.{floor_step}
-use Rattle.replay.specs.Lots.{seen_value}
+use Rattle.replay.specs.Chunks.{seen_value}
 use Rattle.replay.proofs.serving.Serving.look_all.Given as goal
 
 abbrev pub invariant-loop-item : goal.invariant-loop-item

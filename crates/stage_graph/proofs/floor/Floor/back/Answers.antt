@@ -1,7 +1,7 @@
 use Rattle.std.proofs.Common.{◌≡◌, None, arith}
 use Rattle.stage_graph.specs.Floors.{standing, back_cause}
 use Rattle.stage_graph.proofs.Causes.{may_back}
-use Rattle.stage_graph.proofs.Sound.{room_for, returned_room}
+use Rattle.stage_graph.proofs.Sound.{event_fits, returned_fits}
 use Rattle.stage_graph.proofs.Lists.{length_same}
 use Rattle.stage_graph.specs.declared.event.Event.TheVariants.{Back}
 use Rattle.stage_graph.proofs.Moves.{back_stands, back_allowed}
@@ -14,7 +14,7 @@ push_reserved-requires g c =
     let h = c.self.inside.history.items in
     let none : back_cause (standing p n h) c.args.worker (g.C.Item.Named.number_of c.args.item) ≡ None = cc in
     let stands = c.self.invariant.0 in
-    let r = returned_room p n h c.args.worker _ stands.plan stands.legal c.requires (may_back (standing p n h) _ _ none) in
+    let r = returned_fits p n h c.args.worker _ stands.plan stands.legal c.requires (may_back (standing p n h) _ _ none) in
     let l = length_same c.self.inside.returned.items _ (λ x. g.C.Item.Named.number_of x) stands.returned_are in
     omega (arith, r, l, c.self.inside.returned.ok.0, c.self.invariant.3)
 
@@ -26,7 +26,7 @@ push_reserved-requires-2 g c =
     let m = g.C.Item.Named.number_of c.args.item in
     let none : back_cause (standing p n h) c.args.worker m ≡ None = cc in
     let stands = c.self.invariant.0 in
-    omega (arith, room_for p n h (Back c.args.worker m) stands.plan stands.legal (back_allowed p n h c.args.worker m c.requires none), c.self.inside.history.ok.0, c.self.invariant.2)
+    omega (arith, event_fits p n h (Back c.args.worker m) stands.plan stands.legal (back_allowed p n h c.args.worker m c.requires none), c.self.inside.history.ok.0, c.self.invariant.2)
 
 pub invariant_of-self : goal.invariant_of-self
 invariant_of-self g c =

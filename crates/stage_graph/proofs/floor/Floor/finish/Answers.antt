@@ -1,6 +1,6 @@
 use Rattle.std.proofs.Common.{◌≡◌, Some, None, arith, set}
 use Rattle.stage_graph.specs.Floors.{standing, give_cause}
-use Rattle.stage_graph.proofs.Sound.{room_for, held_below, held_not_done}
+use Rattle.stage_graph.proofs.Sound.{event_fits, held_below, held_not_done}
 use Rattle.stage_graph.specs.declared.event.Event.TheVariants.{Give}
 use Rattle.stage_graph.proofs.Moves.{give_allowed, give_known, give_last_stands, empty_slot}
 use Rattle.stage_graph.proofs.Lists.{placed}
@@ -14,7 +14,7 @@ push_reserved-requires g c =
     let m = g.C.Item.Named.number_of c.args.item in
     let none : give_cause p (standing p n h) c.args.worker m (g.C.Item.Named.done_of c.args.item) ≡ None = rw c.self.view_is c.requires.cause in
     let stands = c.self.invariant.0 in
-    omega (arith, room_for p n h (Give c.args.worker m) stands.plan stands.legal (give_allowed p n h c.args.worker m (g.C.Item.Named.done_of c.args.item) c.requires.worker none), c.self.inside.history.ok.0, c.self.invariant.2)
+    omega (arith, event_fits p n h (Give c.args.worker m) stands.plan stands.legal (give_allowed p n h c.args.worker m (g.C.Item.Named.done_of c.args.item) c.requires.worker none), c.self.inside.history.ok.0, c.self.invariant.2)
 
 pub invariant_of-self : goal.invariant_of-self
 invariant_of-self g c =

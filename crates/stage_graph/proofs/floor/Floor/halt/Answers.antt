@@ -1,6 +1,6 @@
 use Rattle.std.proofs.Common.{◌≡◌, None, arith, ap, refl}
 use Rattle.stage_graph.specs.Floors.{standing, halt_cause}
-use Rattle.stage_graph.proofs.Sound.{room_for}
+use Rattle.stage_graph.proofs.Sound.{event_fits}
 use Rattle.stage_graph.specs.declared.event.Event.TheVariants.{Halt}
 use Rattle.stage_graph.proofs.Moves.{halt_stands}
 use Rattle.std.specs.Option.{is_none}
@@ -13,7 +13,7 @@ push_reserved-requires g c =
     let h = c.self.inside.history.items in
     let stands = c.self.invariant.0 in
     let none : halt_cause (standing p n h) ≡ None = rw (← stands.stopped_is, c.if-self.false) refl in
-    omega (arith, room_for p n h Halt stands.plan stands.legal (ap is_none none), c.self.inside.history.ok.0, c.self.invariant.2)
+    omega (arith, event_fits p n h Halt stands.plan stands.legal (ap is_none none), c.self.inside.history.ok.0, c.self.invariant.2)
 
 pub invariant_of-self : goal.invariant_of-self
 invariant_of-self g c =

@@ -1,5 +1,5 @@
 use Rattle.std.proofs.Common.{◌≡◌, sym, length}
-use Rattle.stage_graph.proofs.Crewing.{renamed}
+use Rattle.stage_graph.proofs.Helping.{renamed}
 use Rattle.stage_graph.proofs.floor.Floor.into_held.Goals as goal
 
 pub invariant_of-result : goal.invariant_of-result

@@ -1,6 +1,6 @@
 use Rattle.std.proofs.Common.{◌≡◌, None, arith}
 use Rattle.stage_graph.specs.Floors.{standing, leave_cause}
-use Rattle.stage_graph.proofs.Sound.{room_for}
+use Rattle.stage_graph.proofs.Sound.{event_fits}
 use Rattle.stage_graph.specs.declared.event.Event.TheVariants.{Leave}
 use Rattle.stage_graph.proofs.Moves.{leave_stands, leave_allowed}
 use Rattle.stage_graph.proofs.floor.Floor.leave.Goals as goal
@@ -12,7 +12,7 @@ push_reserved-requires g c =
     let h = c.self.inside.history.items in
     let none : leave_cause p (standing p n h) c.args.worker ≡ None = cc in
     let stands = c.self.invariant.0 in
-    omega (arith, room_for p n h (Leave c.args.worker) stands.plan stands.legal (leave_allowed p n h c.args.worker c.requires none), c.self.inside.history.ok.0, c.self.invariant.2)
+    omega (arith, event_fits p n h (Leave c.args.worker) stands.plan stands.legal (leave_allowed p n h c.args.worker c.requires none), c.self.inside.history.ok.0, c.self.invariant.2)
 
 pub invariant_of-self : goal.invariant_of-self
 invariant_of-self g c =

@@ -6,4 +6,4 @@ abbrev pub invariant-loop-stage : goal.invariant-loop-stage
 invariant-loop-stage g l = (l.queues.items ≡ map empty_queue (take l.stage l.plan-inside.capacities.items)) × (l.stages ≤ vec_capacity l.queues) × (vec_len l.queues ≡ l.stage)
 
 abbrev pub invariant-loop-worker : goal.invariant-loop-worker
-invariant-loop-worker g l = (l.hands.items ≡ replicate l._worker None) × (l.left.items ≡ replicate l._worker false) × (l.workers ≤ vec_capacity l.hands) × (l.workers ≤ vec_capacity l.left) × (vec_len l.hands ≡ l._worker) × (vec_len l.left ≡ l._worker)
+invariant-loop-worker g l = (l.worker_slots.items ≡ replicate l._worker None) × (l.left.items ≡ replicate l._worker false) × (l.workers ≤ vec_capacity l.worker_slots) × (l.workers ≤ vec_capacity l.left) × (vec_len l.worker_slots ≡ l._worker) × (vec_len l.left ≡ l._worker)

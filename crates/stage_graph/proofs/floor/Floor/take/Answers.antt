@@ -1,7 +1,7 @@
 use Rattle.std.proofs.Common.{◌≡◌, [], None, rules, arith, ap, ◌∙◌, get_or}
 use Rattle.stage_graph.specs.Layouts.{stage_at}
 use Rattle.stage_graph.specs.Floors.{standing, take_cause}
-use Rattle.stage_graph.proofs.Sound.{room_for}
+use Rattle.stage_graph.proofs.Sound.{event_fits}
 use Rattle.stage_graph.proofs.Lists.{head_popped}
 use Rattle.stage_graph.specs.declared.event.Event.TheVariants.{Take}
 use Rattle.stage_graph.proofs.Moves.{take_allowed, take_stands}
@@ -18,7 +18,7 @@ push_reserved-requires g c =
     let v = c.index_mut.result.now in
     let is : v ≡ get_or c.self.inside.queues.items (stage_at p c.args.worker) ([], 0) = get_or_read c.self.inside.queues.items _ v (omega (arith, stands.stages_are)) (search rules) ([], 0) in
     let ok = take_allowed _ p n h _ c.args.worker c.in-Some-pop.item v c.requires is (head_popped v.0 c.in-Some-pop.item cc) none stands in
-    omega (arith, room_for p n h (Take c.args.worker (g.C.Item.Named.number_of c.in-Some-pop.item)) stands.plan stands.legal ok, c.self.inside.history.ok.0, c.self.invariant.2)
+    omega (arith, event_fits p n h (Take c.args.worker (g.C.Item.Named.number_of c.in-Some-pop.item)) stands.plan stands.legal ok, c.self.inside.history.ok.0, c.self.invariant.2)
 
 pub invariant_of-self-2 : goal.invariant_of-self-2
 invariant_of-self-2 g c =

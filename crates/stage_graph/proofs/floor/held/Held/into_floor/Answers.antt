@@ -1,6 +1,6 @@
 use Rattle.std.proofs.Common.{◌≡◌, ap, ◌∙◌, length}
-use Rattle.stage_graph.specs.Crews.{FloorRecord}
-use Rattle.stage_graph.proofs.Crewing.{renamed}
+use Rattle.stage_graph.specs.Helpers.{FloorRecord}
+use Rattle.stage_graph.proofs.Helping.{renamed}
 use Rattle.stage_graph.proofs.floor.held.Held.into_floor.Goals as goal
 
 pub invariant_of-result : goal.invariant_of-result

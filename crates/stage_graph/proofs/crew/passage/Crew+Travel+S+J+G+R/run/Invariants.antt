@@ -1,5 +1,0 @@
-use Rattle.std.proofs.Common.{length}
-use Rattle.stage_graph.proofs.crew.passage.Crew+Travel+S+J+G+R.run.Given as goal
-
-abbrev pub ghosts-run_on : goal.ghosts-run_on
-ghosts-run_on g a = record { plan = a.floor; count = length a.lots.items }

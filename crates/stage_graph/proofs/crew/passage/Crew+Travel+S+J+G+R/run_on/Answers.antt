@@ -1,6 +1,0 @@
-use Rattle.std.proofs.Common.{◌∙◌}
-use Rattle.stage_graph.proofs.crew.passage.Crew+Travel+S+J+G+R.run_on.Goals as goal
-
-pub returns-clause-values : goal.returns-clause-values
-returns-clause-values g c =
-    rw (← c.steps-done.ensures) (c.in_ok-lots.ensures.values c.args.lots.items (c.deref.ensures.value ∙ c.in_ok-items.ensures.notes))

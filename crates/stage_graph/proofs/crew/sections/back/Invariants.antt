@@ -1,4 +1,0 @@
-use Rattle.stage_graph.proofs.crew.sections.back.Given as goal
-
-abbrev pub ghosts-back_on : goal.ghosts-back_on
-ghosts-back_on g a = record { plan = a.held.plan; count = a.held.count }

@@ -1,4 +1,0 @@
-use Rattle.stage_graph_tests.proofs.crews.floors_by.Given as goal
-
-abbrev pub ghosts-floors_named : goal.ghosts-floors_named
-ghosts-floors_named g a = record { book = a.opened }
