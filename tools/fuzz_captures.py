@@ -66,7 +66,7 @@ def sources():
              made.pcap(packets, tags=b"\x81\x00\x00\x07"), made.pcap(packets, size=80)]
     return {capture_from_log: stored([*logs, os.path.join(DATA, "nginx.log")]),
             capture_from_pcap: stored([*recorded, os.path.join(DATA, "loopback.pcap")]) + built,
-            timeline: [tables.TABLE.encode(), long_table().encode()]}
+            timeline: [tables.TABLE.encode(), tables.POOLS.encode(), long_table().encode()]}
 
 
 def long_table():

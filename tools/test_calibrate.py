@@ -68,8 +68,23 @@ def served(seed, servers, kinds, gap, count, burst=30, spread=0.0, apart=0):
             kind = random_.choices(kinds, [one.weight for one in kinds])[0]
             now += apart
             coming.append((now, kind, int(kind.size * random_.lognormvariate(0, 1.1)), random_.randrange(900)))
-    queue, free, events, answers = collections.deque(), servers, [], []
-    for place, (arrival, *_) in enumerate(coming):
+    def work_on(place):
+        _, kind, size, _ = coming[place]
+        return (kind.cost + kind.kib * size / 1024) * (random_.lognormvariate(0, spread) if spread else 1)
+
+    answers = []
+    for place, done in worked([arrival for arrival, *_ in coming], servers, work_on):
+        arrival, kind, size, number = coming[place]
+        answers.append(Answer(arrival, done, done + kind.delay, kind.method, kind.status, size,
+                              kind.prefix + str(number)))
+    return answers
+
+
+def worked(arrivals, servers, work_on):
+    """When servers are done with each of what arrives, in the order in which they begin: its place, and the time. A
+    queue, and servers that take its first when they are free, and work so long on a place."""
+    queue, free, events = collections.deque(), servers, []
+    for place, arrival in enumerate(arrivals):
         heapq.heappush(events, (arrival, 1, place))
     while events:
         time, is_arrival, place = heapq.heappop(events)
@@ -80,12 +95,31 @@ def served(seed, servers, kinds, gap, count, burst=30, spread=0.0, apart=0):
         while free and queue:
             free -= 1
             place = queue.popleft()
-            arrival, kind, size, number = coming[place]
-            done = time + (kind.cost + kind.kib * size / 1024) * (random_.lognormvariate(0, spread) if spread else 1)
+            done = time + work_on(place)
             heapq.heappush(events, (done, 0, place))
-            answers.append(Answer(arrival, done, done + kind.delay, kind.method, kind.status, size,
-                                  kind.prefix + str(number)))
-    return answers
+            yield place, done
+
+
+def replayed(tables, answers):
+    """The times that settings give the requests of answers, each on the servers of its route's pool."""
+    pools = {None: tables["costs"].get("servers", 1), **{pool["name"]: pool["servers"] for pool in tables["pool"]}}
+    asked, times = sorted(answers, key=lambda one: one.arrival), {}
+    routes = [next((route for route in tables["route"] if (one.target + "/").startswith(route["prefix"] + "/")), {})
+              for one in asked]
+
+    def work_on(place):
+        costs = routes[place] or tables["costs"]
+        cost = costs["cost"] if routes[place] else costs["file" if asked[place].status == 200 else "error"]
+        return cost + costs.get("kib", 0) * asked[place].size / 1024
+
+    for pool, servers in pools.items():
+        places = [place for place, route in enumerate(routes) if route.get("pool") == pool]
+        for number, done in worked([asked[place].arrival for place in places], servers,
+                                   lambda number: work_on(places[number])):
+            place = places[number]
+            delay = routes[place].get("delay", tables["costs"].get("delay", 0))
+            times.setdefault(asked[place].target, []).append(done + delay - asked[place].arrival)
+    return times
 
 
 def simulated(seed, servers, costs, delay, gap, count=COUNT, burst=40):
@@ -109,12 +143,20 @@ def log_of(answers):
     return "".join(lines).encode()
 
 
-def log_of_servers_behind(answers):
-    """The log of nginx, in milliseconds, that asks servers behind it for /api/, and tells how long those took."""
+def measured_of(answers):
+    """How long answers took, by their targets."""
+    times = {}
+    for one in answers:
+        times.setdefault(one.target, []).append(one.end - one.arrival)
+    return times
+
+
+def log_of_servers_behind(answers, prefix="/api/"):
+    """The log of nginx, in milliseconds, that asks servers behind it for a prefix, and tells how long those took."""
     lines = []
     for one in sorted(answers, key=lambda one: one.end):
         end, done, arrival = (START * 1000 + int(time / 1000) for time in (one.end, one.done, one.arrival))
-        behind = ["0.001, %.3f" % ((done - arrival) / 1000), "0.001, 0.000"] if "/api/" in one.target else ["-", "-"]
+        behind = ["0.001, %.3f" % ((done - arrival) / 1000), "0.001, 0.000"] if prefix in one.target else ["-", "-"]
         lines.append('10.0.0.1 "%s %s HTTP/1.1" %d %d %.3f %.3f "%s" "%s"\n' % (
             one.method, one.target, one.status, one.size, end / 1000, (end - arrival) / 1000, *behind))
     return "".join(lines).encode()
@@ -339,7 +381,7 @@ class Fits(Base):
             "".join(lines).encode(), "--log-format", "combined_us", "--page", str(self.page))
         self.assertEqual(found, {"file": 3000, "kib": 40, "error": 800})
         self.assertIn("best: nobody waits (", output)
-        self.assertIn("NOTE: Apache's times begin when a worker takes a request", output)
+        self.assertIn("NOTE: if the server is Apache, its times begin when a worker takes a request", output)
         self.assertIn("WARNING: the log has whole seconds", output)
         self.assertIn("best: nobody waits", self.page.read_text())
 
@@ -443,23 +485,81 @@ class Routes(Base):
 
     def test_servers_behind(self):
         """nginx answers files itself, while requests to the API wait for the four servers behind it: their costs are
-        found, and what nginx adds; the check says what one pool of servers for all makes of the files."""
+        found, and what nginx adds, for a pool of their own. Where the log doesn't tell them apart, the check says what
+        one set of servers for all makes of the files."""
         files = served(5, 64, [Kind(1, "/static/", "GET", 200, 100, 3, 0, 8_000)], 4_500, 3_000, burst=6)
         api = served(6, 4, [one._replace(kib=0, delay=2_000) for one in MIXED[1:3]], 9_000, 1_600)
         log = log_of_servers_behind(files + api)
-        status, _, errors = self.run_on(log, "--log-format", BEHIND)
-        self.assertEqual((status, self.output.exists()), (1, False))
+        output, _ = self.calibrated(log, "--log-format", BEHIND, "--page", str(self.page))
+        tables = tomllib.loads(self.output.read_text())
+        self.assertEqual(tables["pool"], [{"name": "upstream", "servers": 4}])
+        self.check_routes(tables, output)
+        self.assertEqual([route["pool"] for route in tables["route"]], ["upstream"] * 2)
+        self.assertLessEqual(max(map(abs, self.missed(output, "the rest"))), 10)
+        self.assertRegex(output, r"\nupstream: best: 4 servers \(.*\n(.*\n)+upstream: somebody was inside for 9[0-9]%")
+        self.assertNotIn("NOTE", output)
+        self.assertRegex(self.output.read_text(), r"\n# margin [1-9] percent of all costs\n")
+        self.assertIn("<td>upstream</td>", self.page.read_text())
+        output, _ = self.calibrated(log, "--log-format", BEHIND, "--route", "/static", "--anyway")
+        routes = tomllib.loads(self.output.read_text())["route"]
+        self.assertEqual([(route["prefix"], route.get("pool")) for route in routes],
+                         [("/static", None), ("/", "upstream")])
+        self.assertIn("an upstream served the most of what is on no route: the settings have a route for all paths\n",
+                      output)
+        form, data = BEHIND.partition(' "$up')[0], re.sub(rb' "[^"/]+" "[^"/]+"\n', b"\n", log)
+        status, _, errors = self.run_on(data, "--log-format", form)
         self.assertRegex(errors, "the check fails, and nothing is written: the rest p[0-9]+ .*; take a time in which ")
-        for form, data in ((BEHIND, log), (BEHIND.partition(' "$up')[0], re.sub(rb' "[^"/]+" "[^"/]+"\n', b"\n", log))):
-            output, _ = self.calibrated(data, "--log-format", form, "--anyway")
-            costs = tomllib.loads(self.output.read_text())["costs"]
-            self.assertEqual(costs["servers"], 4)
-            self.assertRegex(output, "NOTE: 6[0-9]% of the answers needed none of the servers that the others ")
-            routes = self.routes().values()
-            took = [route["cost"] + route.get("delay", costs.get("delay", 0)) for route in routes]
-            self.check_near(took, (14_000, 47_000), 3)
-            for name in ("/api/item", "/api/search"):
-                self.assertLessEqual(max(map(abs, self.missed(output, name))), 10)
+        output, _ = self.calibrated(data, "--log-format", form, "--anyway")
+        tables = tomllib.loads(self.output.read_text())
+        self.assertEqual((status, tables["costs"]["servers"], "pool" in tables), (1, 4, False))
+        self.assertRegex(output, "NOTE: 6[0-9]% of the answers needed none of the servers that the others ")
+        self.check_routes(tables, output)
+
+    def check_routes(self, tables, output):
+        """The routes of test_servers_behind."""
+        took = [route["cost"] + route.get("delay", tables["costs"].get("delay", 0)) for route in self.routes().values()]
+        self.check_near(took, (14_000, 47_000), 3)
+        for name in ("/api/item", "/api/search"):
+            self.assertLessEqual(max(map(abs, self.missed(output, name))), 10)
+
+    def test_full_backend(self):
+        """Two processes of nginx send files, and are busy for half of the time, while all servers behind it are: what
+        is written, replayed here, takes as long as was measured. Where some answers of the API come from nginx's cache,
+        and some files from a server behind it, they count for no fit."""
+        files = served(15, 2, [Kind(1, "/static/", "GET", 200, 4_000, 100, 0, 20_000)], 6_500, 3_000, burst=12)
+        api = served(16, 4, [one._replace(kib=0, delay=2_000) for one in MIXED[1:3]], 8_000, 2_000)
+        self.assertGreater(numpy.percentile([one.end - one.arrival for one in api], 50), 60_000)
+        self.calibrated(log_of_servers_behind(files + api), "--log-format", BEHIND)
+        tables = self.check_pools()
+        times = replayed(tables, files + api)
+        for prefix, percents in (("/static/", (90, 99)), ("/api/item/", (50, 90, 99)), ("/api/search/", (50, 90, 99))):
+            found, real = ([time for target, of in each.items() if target.startswith(prefix) for time in of]
+                           for each in (times, measured_of(files + api)))
+            self.assertEqual(len(found), len(real))
+            self.check_near(numpy.percentile(found, percents), numpy.percentile(real, percents), 10)
+        hits = [one._replace(end=one.arrival + 300, done=one.arrival + 300) for one in api[::25]]
+        log = log_of_servers_behind(files[40:] + api) + log_of_servers_behind(files[:40] + hits, "/static/")
+        output, _ = self.calibrated(log, "--log-format", BEHIND, "--route", "/api/search", "--route", "/api/item",
+                                    "--anyway")
+        self.check_pools()
+        self.assertIn("NOTE: on the routes of the pool the proxy itself answered %d requests, and on others an "
+                      "upstream 40: in a replay their paths decide\n" % len(hits), output)
+
+    def check_pools(self):
+        """The tables that were written, with the servers of test_full_backend."""
+        tables = tomllib.loads(self.output.read_text())
+        self.assertEqual((tables["costs"]["servers"], tables["pool"]), (2, [{"name": "upstream", "servers": 4}]))
+        self.assertEqual([(route["prefix"], route["pool"]) for route in tables["route"]],
+                         [("/api/item", "upstream"), ("/api/search", "upstream")])
+        return tables
+
+    def test_one_kind(self):
+        """Where servers behind nginx, or HAProxy, answer all, or too few, there is no pool."""
+        api = served(6, 4, [one._replace(kib=0, delay=2_000) for one in MIXED[1:3]], 12_000, 900)
+        few = served(5, 64, [Kind(1, "/static/", "GET", 200, 100, 3, 0, 8_000)], 40_000, 250, burst=5)
+        for answers in (api, api + few):
+            self.calibrated(log_of_servers_behind(answers), "--log-format", BEHIND, "--anyway")
+            self.assertNotIn("pool", tomllib.loads(self.output.read_text()))
 
     def test_part_of_the_time(self):
         """--from and --to, and what is past the most that is taken."""
@@ -529,6 +629,37 @@ class Prefixes(unittest.TestCase):
         names = ["/a/b/c", "/a/b/d", "/a/b", "/a", "/e/f", "/e/g", "/h"]
         counts = numpy.array([250, 150, 49, 1, 100, 100, 199])
         self.assertEqual(sorted(route_search.with_enough(names, counts)), ["/a", "/a/b/c", "/e"])
+
+    def beside(self, *kinds):
+        """The routes that are found where each kind is so many requests of a path, that take a time, and which an
+        upstream serves or not; they come a second apart."""
+        names = [name for name, *_ in kinds]
+        of = [(place, took, behind) for place, (_, count, took, behind) in enumerate(kinds) for _ in range(count)]
+        random.Random(1).shuffle(of)
+        path, took, behind = (numpy.array(values) for values in zip(*of))
+        is_file, none = numpy.ones(len(of), bool), numpy.zeros(len(of))
+        zero = none.astype(int)
+        requests = cost_fit.requests_of(1e6 * numpy.arange(len(of)), took.astype(float), none, zero, ~behind, zero,
+                                        is_file, none)
+        return route_search.found_beside(requests, is_file, path, names, behind)
+
+    def test_beside(self):
+        """Each prefix that an upstream serves the most of is on a route; what the proxy serves below it has its own."""
+        own, api = ("/s", 900, 100, False), ("/api/a", 300, 5_000, True)
+        for kinds, routes in (
+                ((own, api), ["/api/a"]),
+                ((own, ("/api/a", 300, 100, True)), ["/api/a"]),  # though they take as long
+                ((own, api, ("/api/b", 300, 5_000, True)), ["/api"]),
+                ((own, api, ("/api/b", 300, 90_000, True)), ["/api/a", "/api/b"]),
+                ((own, api, ("/api/b", 300, 5_000, True), ("/api/s", 300, 100, False)), ["/api/s", "/api"]),
+                ((own, ("/s/a", 300, 5_000, True)), ["/s/a"]),
+                ((own, ("/api/a", 150, 5_000, False), ("/api/a", 250, 5_000, True)), ["/api/a"]),
+                ((own, ("/few", 199, 5_000, True)), []),
+                # The upstream serves what is on no other prefix.
+                ((own, *(("/page%d" % place, 20, 5_000, True) for place in range(20))), ["/s", ""]),
+                ((own, ("/slow", 300, 80_000, False), api), ["/api/a", "/slow"])):
+            with self.subTest(kinds):
+                self.assertEqual(self.beside(*kinds), routes)
 
     def test_path(self):
         for target, depth, path in ((b"/a/b/c/d?e", 3, "/a/b/c"), (b"/a//./%62/../c", 3, "/a/c"), (b"/", 3, ""),

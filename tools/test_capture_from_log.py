@@ -161,6 +161,34 @@ class Logs(test_support.ToolTest):
             with unittest.mock.patch.object(log_blocks, "HELD_REQUESTS", held):
                 self.assertEqual(list(log_blocks.by_arrival(iter(requests))), expected)
 
+    def test_arrivals_of_a_millisecond(self):
+        """Those of the same millisecond are in the order in which they were begun, not in that of their answers. What
+        was turned away tells nothing of its path; what waited for nothing stays in the order of the log."""
+        answers = [(0, 60, 200, b"/slow/1"), (100, 10, 200, b"/quick?a"), (200, 0, 503, b"/slow/2"),
+                   (300, 0, 503, b"/quick"), (300, 15, 200, b"/quick?b"), (300, 60, 200, b"/slow/34"),
+                   (300, 64, 200, b"/slow/5"), (400, 10, 200, b"/quick"), (400, 20, 200, b"/other"),
+                   (400, 30, 200, b"/one/more")]
+        lines = b"".join(b"%.3f %.3f %d GET %b HTTP/1.1\n" % (
+            START + (came + took) / 1000, took / 1000, status, target) for came, took, status, target in answers)
+        text, _ = self.convert(lines, "--log-format", "$msec $request_time $status $request", "--host", "a")
+        order = (0, 1, 2, 3, 5, 6, 4, 7, 8, 9)
+        self.assertEqual(text, capture(*(
+            (1000 * answers[place][0], number, GET.replace(b"/ ", answers[place][3] + b" "))
+            for number, place in enumerate(order))))
+
+    def test_haproxys_timers_tell_the_order(self):
+        # Two at a time are answered: the slow one of 0.300 came first, and was answered last.
+        lines = b"".join(b'127.0.0.1:%d [06/Nov/1994:08:49:37.%03d] site site/a %b/%d %d 9 - - ---- 1/1/0/0/0 0/0 '
+                         b'"GET %b HTTP/1.1"\n' % (port, came, timers, total, status, target)
+                         for port, came, timers, total, status, target in (
+                             (1, 0, b"0/0/0/60", 60, 200, b"/slow"), (2, 100, b"0/0/0/10", 10, 200, b"/quick"),
+                             (3, 200, b"0/-1/-1/-1", 0, 503, b"/slow"), (4, 300, b"0/5/0/10", 15, 200, b"/quick"),
+                             (5, 300, b"0/0/0/60", 60, 200, b"/slow")))
+        text, _ = self.convert(lines, "--log-format", "haproxy", "--host", "a")
+        self.assertEqual(text, capture(*((1000 * came, number, GET.replace(b"/ ", target + b" ")) for number, (
+            came, target) in enumerate(((0, b"/slow"), (100, b"/quick"), (200, b"/slow"), (300, b"/slow"),
+                                        (300, b"/quick"))))))
+
     def test_memory_of_a_long_duration(self):
         """One request that takes nearly a day doesn't keep the others of the day in memory."""
         day = ((second * 10**6, 80_000 * 10**6 * (second == 79_999), 0, b"%0200d" % second) for second in range(80_000))

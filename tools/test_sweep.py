@@ -31,6 +31,7 @@ TOP = TOOLS.parent
 PROGRAM = TOP / "crates" / "haboob" / "out" / "haboob"
 EXAMPLES = TOP / "examples"
 sys.path.insert(0, str(TOOLS))
+import test_timeline as tables_of_timeline
 from haboob_tools import (decision_tables, pages, response_delays, server_lines, settings_documents, spreadsheets,
                           sweep, sweep_figures, sweep_page, sweep_search, tool_run)
 
@@ -225,7 +226,7 @@ class Base(unittest.TestCase):
 def result_of(admitted, rejected, p99, **others):
     """A result of a run, as the tool keeps it."""
     return {"admitted": admitted, "rejected": rejected, "rejected_while_idle": 0, "p50": p99, "p90": p99, "p99": p99,
-            "greatest": p99, "most_inside": 1, "busy": 1, "span": 2, "servers": 1, "tiers": {}, **others}
+            "greatest": p99, "most_inside": 1, "busy": 1, "span": 2, "servers": 1, "tiers": {}, "pools": {}, **others}
 
 
 class Figures(unittest.TestCase):
@@ -277,6 +278,17 @@ class Figures(unittest.TestCase):
         self.assertEqual(of_tiers, [[2004, 4004, 4004, 4004], [2105, 4058, 4058, 4058]])
 
 
+    def test_pools(self):
+        """The requests of tests/pools.toml: pool 0 works for 2 * 50, and one of its requests waits for 49."""
+        tally = decision_tables.tally_of(io.BytesIO(tables_of_timeline.POOLS.encode()), response_delays.Delays({}))
+        figures = tally.figures()
+        self.assertEqual(figures["pools"], {
+            "0": {"busy": 100, "most_waiting": 1, "longest_wait": 49},
+            "1": {"busy": 2000, "most_waiting": 1, "longest_wait": 999},
+            "2": {"busy": 20, "most_waiting": 0, "longest_wait": 0}})
+        self.assertEqual((figures["busy"], figures["span"]), (2120, 2000))
+
+
 class Delays(unittest.TestCase):
     """The delay of a request's route, by its target as the table of decisions has it: a percent sign is %25."""
 
@@ -319,9 +331,20 @@ class Documents(unittest.TestCase):
             settings_documents.with_values(settings_documents.parsed(text, "a"), ("costs.file",), (9,)))
         self.assertEqual(document, '[costs]\nfile = 9\n\n[[route]]\ncost = 1\nprefix = "/\\"\\u007f"\n\n'
                          '[[route]]\ncost = 2\nprefix = "/"\n')
-        for text in ("route = 1", "route = [1]", "[[route]]\ncost = 1.5\n"):
+        for text in ("route = 1", "route = [1]", "[[route]]\ncost = 1.5\n", "pool = 1", "[[pool]]\nservers = [1]\n"):
             with self.subTest(text), self.assertRaises(settings_documents.Fault):
                 settings_documents.parsed(text.encode(), "a")
+
+    def test_pools(self):
+        """By their names; one that no route names any more isn't there."""
+        base = settings_documents.parsed(tables_of_timeline.OF_POOLS.encode(), "a")
+        self.assertEqual(settings_documents.servers_of(base), [1, 1, 2])
+        changed = settings_documents.with_values(base, ("pool.<fast>.servers", "route./slow/.pool"), (7, "<fast>"))
+        self.assertEqual(settings_documents.text_of(changed), '[[pool]]\nname = "<fast>"\nservers = 7\n\n' + "\n".join(
+            '[[route]]\ncost = %d\npool = "<fast>"\nprefix = "/%s"\n' % one for one in ((1000, "slow"), (10, "fast"))))
+        text = settings_documents.text_of(settings_documents.with_values(base, ("costs.servers",), (3,)))
+        self.assertEqual(text.partition("[[route]]")[0], '[costs]\nservers = 3\n\n[[pool]]\nname = "slow"\n'
+                         'servers = 1\n\n[[pool]]\nname = "<fast>"\nservers = 2\n\n')
 
     def test_fixed_rate(self):
         self.assertEqual(settings_documents.text_of(settings_documents.with_values({}, ("policy.fixed_rate",), (9,))),
@@ -426,6 +449,40 @@ class Sweep(Base):
             self.assertEqual(status, 0, errors)
             rows = self.folder.table().splitlines()[1:]
             self.assertEqual([row.partition(rest)[2][:8] for row in rows], shares, words)
+
+    def test_pools(self):
+        """The requests of tests/pools.toml, on one server of no pool, one of `slow` and two or four of `<fast>`: within
+        2,000 ticks these work for 100, 2,000 and 20. Of several values each has its own document."""
+        self.draw()
+        self.folder.plan(table=tables_of_timeline.POOLS)
+        self.folder.settings.write_text(tables_of_timeline.OF_POOLS)
+        grid = ("--set", "policy.rate=20", "--set", "policy.depth=3", "--set", "pool.<fast>.servers=2,4")
+        words = self.folder.words("--settings", str(self.folder.settings), grid=grid)
+        status, errors = swept(words)
+        self.assertEqual(status, 0, errors)
+        with open(self.folder.path / "swept" / "sweep.csv") as file:
+            rows = list(csv.DictReader(file))
+        names = ["%s.%s" % (pool, name) for pool in ("costs", "pool.<fast>", "pool.slow")
+                 for name in ("busy_share", "most_waiting", "longest_wait")]
+        self.assertEqual(list(rows[0])[-11:], [*names, "fault", "settings"])
+        self.assertEqual([[row[name] for name in ("busy_share", *names)] for row in rows], [
+            "0.265000 0.050000 1 49 0.005000 0 0 1.000000 1 999".split(),
+            "0.176667 0.050000 1 49 0.002500 0 0 1.000000 1 999".split()])
+        documents = [tomllib.loads((self.folder.path / "swept" / row["settings"]).read_text()) for row in rows]
+        self.assertEqual([[pool["servers"] for pool in document["pool"]] for document in documents], [[1, 2], [1, 4]])
+        page = self.folder.page()
+        self.assertIn("<th>longest wait, ms</th></tr>\n", page)
+        self.assertIn("<td>2</td><td>pool.<wbr>slow</td><td>100.0</td><td>1</td><td>0.999</td></tr>\n", page)
+        self.assertIn("sweep: WARNING: row 1 keeps the server of pool.slow busy for 100% of its time: above 90% a",
+                      swept([*words, "--at-most", "p99=900"])[1])
+        # By the name of the pool; that which no route names then isn't in the settings.
+        grid = (*grid[:4], "--set", "route./slow.pool=slow,<fast>")
+        status, errors = swept(self.folder.words("--settings", str(self.folder.settings), grid=grid))
+        self.assertEqual(status, 0, errors)
+        with open(self.folder.path / "swept" / "sweep.csv") as file:
+            paths = [self.folder.path / "swept" / row["settings"] for row in csv.DictReader(file)]
+        self.assertEqual([[pool["name"] for pool in tomllib.loads(path.read_text())["pool"]] for path in paths],
+                         [["slow", "<fast>"], ["<fast>"]])
 
     def test_delays(self):
         """A delay is in all times that the table tells; the report's are the stub's. With 4,000 the responses to
@@ -792,7 +849,9 @@ class Damaged(Base):
         sound = json.loads(paths[0].read_text())
         texts = [b"", b"{}", b"[" * 100_000, b"\xff\xfe", b"null", b'"a"', b"9" * 5000, json.dumps(
             {**sound, "p99": "many"}).encode(), json.dumps({**sound, "tiers": {"7": {}}}).encode(), json.dumps(
-            {**sound, "tiers": {"0": {"p99": []}}}).encode(), json.dumps({**sound, "busy": None}).encode(),
+            {**sound, "tiers": {"0": {"p99": []}}}).encode(), *(
+                json.dumps({**sound, "pools": pools}).encode() for pools in ([], {"17": {}}, {"1": {"busy": -1}})),
+                 json.dumps({**sound, "busy": None}).encode(),
                  *(json.dumps({**sound, name: value}).encode() for name in ("p99", "busy", "span", "admitted")
                    for value in (10**400, -1)), b" " * sweep.RESULT_ROOM + json.dumps(sound).encode()]
         for text in texts:
@@ -991,7 +1050,30 @@ class Faults(Base):
         self.check(self.folder.words(*words, "--set", "route./c.cost=1"), 1,
                    "sweep: --set: route./c.cost: --settings has no route with the prefix /c; it has /a, /b")
         self.check(self.folder.words(*words, "--set", "route./a.prefix=1"), 1,
-                   "sweep: --set: route./a.prefix: a route has cost, kib, delay")
+                   "sweep: --set: route./a.prefix: a route has cost, kib, delay, pool")
+        self.assertEqual(self.folder.calls(), [])
+
+    def test_pools(self):
+        """A pool that isn't there, by its own key or a route's; and words that aren't for pools."""
+        self.check(self.folder.words("--set", "pool.api.servers=1"), 1,
+                   "sweep: --set: pool.api.servers: --settings has no pool with the name api")
+        self.folder.settings.write_text(tables_of_timeline.OF_POOLS)
+        words = ["--settings", str(self.folder.settings)]
+        has = "; it has slow, <fast>"
+        for text, line in (
+                ("pool.api.servers=1,2", "pool.api.servers: --settings has no pool with the name api" + has),
+                ("route./slow.pool=slow,api", "route./slow.pool: --settings has no pool with the name api" + has),
+                ("route./slow.pool=", "route./slow.pool: --settings has no pool with the name " + has),
+                ("route./none.pool=slow", "route./none.pool: --settings has no route with the prefix /none; it has "
+                 "/slow, /fast"),
+                ("pool.slow.cost=1", "pool.slow.cost: a pool has servers")):
+            with self.subTest(text):
+                self.check(self.folder.words(*words, "--set", text), 1, "sweep: --set: " + line)
+        begin = "tools/sweep.py: error: argument --set: "
+        self.check(self.folder.words(*words, "--set", "pool.slow.servers=a"), 2,
+                   begin + "pool.slow.servers: 'a' is no integer")
+        self.check(self.folder.words(*words, "--search", "10", "--at-most", "p99=1", grid=(
+            "--set", "route./slow.pool=a..b")), 2, begin + "route./slow.pool: --search needs a range, LEAST..GREATEST")
         self.assertEqual(self.folder.calls(), [])
 
     def test_files(self):

@@ -45,6 +45,35 @@ SECONDS = (
     "1,0,0,0,0,0,,,,0.1,0,0,,,0,0,0,,,0,0\n"
     "2,1,0,1,0,1,,,,0.0,0,0,,,0,0,1,1000,0,0,0\n"
 )
+# The requests of tests/pools.toml: pool 1 has one server, pool 2 two, and one serves what is of no pool.
+POOLS = HEADING.replace("waited,", "waited,pool,") + (
+    "0,0,0,0,404,admitted,1000,100000000000,1000000,0,1000,0,1,GET,/slow\n"
+    "1,0,1,0,404,admitted,1000,99001000000,1000000,1000,2000,999,1,GET,/slow\n"
+    "2,0,2,0,404,admitted,50,98002000000,1000000,2,52,0,0,GET,/none\n"
+    "3,0,3,0,404,admitted,50,97003000000,1000000,52,102,49,0,GET,/none\n"
+    "4,0,4,0,404,admitted,10,96004000000,1000000,4,14,0,2,GET,/fast\n"
+    "5,0,5,0,404,admitted,10,95005000000,1000000,5,15,0,2,GET,/fast\n"
+    "6,1,6,0,400,bypassed,,,,,,,,,\n"
+)
+OF_POOLS = """\
+[[pool]]
+name = "slow"
+servers = 1
+
+[[pool]]
+name = "<fast>"
+servers = 2
+
+[[route]]
+prefix = "/slow"
+cost = 1000
+pool = "slow"
+
+[[route]]
+prefix = "/fast"
+cost = 10
+pool = "<fast>"
+"""
 CAPTURE = "haboob-capture 2 784111777\nstop 0\n"  # Sun, 06 Nov 1994 08:49:37 GMT
 
 
@@ -163,6 +192,29 @@ class Figures(Base):
             rows = self.rows(table, "--step", "1", *words)
             self.assertEqual([row["busy_share"] for row in rows], shares, text)
 
+    def test_pools(self):
+        """Of pool 1 the server works all the time, and one request waits for it, up to 999; of pool 0 for 100 of 1,000,
+        and one waits for 49; of pool 2 two for 10 each, which is a hundredth of both. All four work for 1,120 of 4,000.
+        Without settings the table shows as many at work."""
+        names = ["pool_%d_%s" % (pool, name) for pool in range(3)
+                 for name in ("busy_share", "most_waiting", "longest_wait")]
+        self.settings.write_text(OF_POOLS)
+        for words in ((), ("--settings", str(self.settings))):
+            rows = self.rows(POOLS, "--step", "1ms", *words)
+            self.assertEqual(list(rows[0])[-9:], names)
+            self.assertEqual([[row[name] for name in ("busy_share", *names)] for row in rows], [
+                "0.28 0.1 1 49 1.0 1 999 0.01 0 0".split(), "0.25 0.0 0 0 1.0 0 0 0.0 0 0".split()])
+        self.settings.write_text(OF_POOLS.replace("servers = 2", "servers = 4"))
+        self.assertEqual(self.rows(POOLS, "--step", "1ms", "--settings", str(self.settings))[0][names[6]], "0.005")
+
+    def test_several_wait(self):
+        """Three come together with one that is served at once, and a fourth when the first of them is begun."""
+        rows = [admitted(0, 0, 100), *(admitted(number, 0, 100, 100 * number) for number in (1, 2, 3)),
+                admitted(4, 100, 100, 400)]
+        table = (HEADING + "".join(rows)).replace("waited,", "waited,pool,").replace(",GET", ",3,GET")
+        row = self.rows(table)[0]
+        self.assertEqual((row["pool_3_most_waiting"], row["pool_3_longest_wait"]), ("3", "300"))
+
     def test_delays(self):
         """Three come at once and are served for 100 each; the first two are on a route. By hand: without settings they
         take 100, 200 and 300; with delays of 50 and 1,000 the first 150, the second 250 and the third 1,300, so that it
@@ -253,6 +305,22 @@ class Page(Base):
         _, _, texts = self.run_on(TABLE, "--settings", str(self.settings))
         self.assertIn("How busy the servers were, percent of the time of 4<", texts["page"])
         self.assertNotIn("the server ", texts["page"])
+
+    def test_pools(self):
+        """A picture of each of their figures, and a table; without pools there is neither."""
+        self.settings.write_text(OF_POOLS)
+        _, _, texts = self.run_on(POOLS, "--settings", str(self.settings), "--step", "1ms")
+        self.assertEqual(texts["page"].count("<svg"), 10)
+        for text in ("How busy the servers were, percent of the time of 4<", "How busy each pool&#x27;s servers were",
+                     "Most requests of each pool that had come", "Longest wait for a server of each pool"):
+            self.assertIn(text.replace("&#x27;", "'"), texts["page"])
+        for row in ((0, "costs", 1, "5.0", 1, "0.049"), (1, "pool.slow", 1, "100.0", 1, "0.999"),
+                    (2, "pool.&lt;fast&gt;", 2, "0.5", 0, "0.000")):
+            self.assertIn("<tr>%s</tr>" % "".join("<td>%s</td>" % cell for cell in row), texts["page"])
+        _, _, texts = self.run_on(POOLS)
+        self.assertIn("<td>1</td><td>-</td><td>1</td>", texts["page"])
+        _, _, texts = self.run_on(TABLE)
+        self.assertNotIn("pool", texts["page"])
 
     def test_titles(self):
         self.settings.write_text("[policy]\ntarget = 250000\n[tier1]\ntarget = 700000\n")
@@ -389,6 +457,11 @@ class Faults(Base):
         self.check(TABLE.replace("/a\n", "/" + "a" * 70_000 + "\n"), "table: row 2: longer than 65536 bytes")
         self.check(TABLE.encode().replace(b"GET,/b", b"GET,/\xa7"), "table: row 3: target: '/\\udca7' isn't one")
         self.check(TABLE.replace("GET,/b", "G\x7fT,/b"), "table: row 3: method: 'G\\x7fT' isn't one")
+        for old, new, words in ((",999,1,GET", ",999,17,GET", "pool: '17' isn't one"),
+                                (",999,1,GET", ",999,,GET", "pool: isn't there"),
+                                (",999,1,GET", ",999,GET", "not as many fields as the heading has")):
+            self.check(POOLS.replace(old, new), "table: row 3: " + words)
+        self.check(POOLS.replace("waited,pool,", "pool,waited,"), "table: this is no table of decisions")
         self.check(TABLE.replace("GET,/b", "GET,\"/b").encode() + b"\xff\x00\n",
                    "table: row 7: not as many fields as the heading has")
 
@@ -407,6 +480,10 @@ class Faults(Base):
         for servers in ("0", "1025", "[2]"):
             self.settings.write_text("[costs]\nservers = %s\n" % servers)
             self.check(TABLE, "site.toml: costs.servers: not from 1 to 1024 servers", "--settings", str(self.settings))
+        for servers in ("0", "1025", "'2'"):
+            self.settings.write_text(OF_POOLS.replace("servers = 2", "servers = " + servers))
+            self.check(POOLS, "site.toml: pool.<fast>.servers: not from 1 to 1024 servers",
+                       "--settings", str(self.settings))
         for text in ("[costs]\ndelay = -1\n", "[[route]]\nprefix = '/'\ndelay = 1000000001\n",
                      "[[route]]\nprefix = '/'\ndelay = '1'\n"):
             self.settings.write_text(text)

@@ -1,5 +1,6 @@
 """Servers that a check starts on this machine."""
 import contextlib
+import os
 import signal
 import socket
 import subprocess
@@ -33,7 +34,8 @@ def is_soon(condition, seconds, process=None):
 
 @contextlib.contextmanager
 def running(words, end_signal=signal.SIGTERM, **options):
-    """A process that is ended when its block is left, in whatever way."""
+    """A process that is ended when its block is left, in whatever way. Where it has to be killed, and has a session of
+    its own (start_new_session), its whole group is killed."""
     process = subprocess.Popen(list(map(str, words)), stdin=subprocess.DEVNULL, **options)
     try:
         yield process
@@ -42,6 +44,8 @@ def running(words, end_signal=signal.SIGTERM, **options):
         try:
             process.wait(SECONDS)
         except subprocess.TimeoutExpired:
+            if options.get("start_new_session"):
+                os.killpg(process.pid, signal.SIGKILL)
             process.kill()
             process.wait()
             raise

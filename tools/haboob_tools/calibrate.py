@@ -17,6 +17,7 @@ from .response_delays import segments_of_prefix
 from .tool_run import Fault
 
 TOOL = "calibrate"
+LEAST_REQUESTS = 300  # of a fit
 numpy = tool_run.library("numpy")
 from . import calibrate_page, cost_fit, forecast_check, input_files, log_formats, measured_times, route_search
 
@@ -59,14 +60,19 @@ delay before one for all and one for each route, and then the fewest servers. Of
 tells apart the simpler one is written: no kib where all answers have one size, or where its margin is
 as great as it; no delay where hardly a request waited for one on the route.
 
-Requests that needed none of the servers, as files that nginx answers itself ($upstream_response_time
-is -, or the rest takes no longer while many are inside), don't wait in the fit; in a replay, and in
-the check, all wait for the same servers.
+Requests that nginx answers itself ($upstream_response_time is -) don't wait for the servers behind it.
+Where it answered %d so, and the servers behind it as many, what these served is on routes with a pool
+of their own, `upstream`: servers, costs and delays are fitted to the requests of each by themselves. A
+replay goes by the paths, and so does the check: what was answered in the other way on a path counts
+there, but for no fit. Without a pool, requests that needed none of the servers (also where the rest
+takes no longer while many are inside) don't wait in the fit; in a replay, and in the check, all wait
+for the same servers. (HAProxy's log tells no times of what it answers itself.)
 
 The margin of a figure, in percent, is the spread of the fits without each of ten pieces of the time in
 turn (the jackknife, 95 percent). The line `margin` is for tools/sweep.py --margin calibrated: the
 margin of all work, or by how much all costs of the first half would have to be higher or lower for the
-second, whichever is greater.
+second, whichever is greater; of two pools the greater one, but for work that is shorter than the steps
+of the log's times.
 
 The check: the same is fitted on the first half, and has to predict the second: p50, p90 and p99 of the
 rest and of each route, and with --tier of each tier, all with at least %d requests there. Where one is
@@ -74,7 +80,7 @@ off by more than %d%%, nothing is written, unless --anyway is given. What is wit
 log's times isn't off.
 
 """ % ("\n    ".join(textwrap.wrap(log_formats.TIMED.replace("$remote_identity", "-"), 86)),
-       route_search.LEAST_REQUESTS, forecast_check.LEAST_JUDGED,
+       route_search.LEAST_REQUESTS, LEAST_REQUESTS, forecast_check.LEAST_JUDGED,
        forecast_check.POOR) + capture_writer.TIERS_EXPLAINED + """
 examples:
   tools/calibrate.py --port 80 --output costs.toml --page costs.html site.pcap
@@ -84,21 +90,23 @@ examples:
     $msec $request_time $upstream_response_time $upstream_connect_time' access.log
 """
 
-LEAST_REQUESTS = 300
 FULL = 0.9  # of the time busy: overloaded all along
 MOST_MARGIN = 90  # percent
 MOST_TOLD = 3  # prefixes that are named
 KIB_PART = 0.05  # of the work of a route
+QUIET = 0.25  # the part of a pool's requests by which its costs are estimated at first
 MET = 0.05  # of the requests found somebody inside: less is hardly any
 DEARER = 1.08  # costs so many times higher show how much rests on them
 ONE_SIZE = 0.01  # the deviation of sizes, as a part of their mean, up to which they are one
 TICKS_IN_MILLISECOND = 1000
 REST = "the rest"
+UPSTREAM = "upstream"  # the name of the pool of the servers behind a proxy
+POOLS = ("the proxy itself", UPSTREAM)
 CHECK = "the check: fitted on the first half, replayed on the second"
 METHOD = "+-: the spread of the fits without each of ten pieces of the time (the jackknife, 95 percent)"
 
-BEGUN = ("NOTE: Apache's times begin when a worker takes a request: how long it waited for a free worker is in none of "
-         "them")
+BEGUN = ("NOTE: if the server is Apache, its times begin when a worker takes a request: how long it waited for a free "
+         "worker is in none of them")
 WHOLE_SECONDS = ("WARNING: the log has whole seconds: the durations are taken for work, without any wait, and how many "
                  "requests the server works on at once can't be told; take a time with little load, and set "
                  "costs.servers yourself, or log %{usec}t")
@@ -109,9 +117,13 @@ Load = collections.namedtuple("Load", "requests path names is_file grain")
 # A fit, what the answers of each group take beside the server, the margins of costs and of delays, that of all work in
 # percent, the groups whose delays can't be told from their costs, and those whose costs of a KiB can't be told from 0.
 Found = collections.namedtuple("Found", "fit beside costs_margin delays_margin margin unclear needless")
-# What comes of all: the prefixes of routes and their names (the rest first), the requests by them, those groups whose
-# answers have one size, what is found, the rows of the check, and what is told of the routes, a line each.
-Result = collections.namedtuple("Result", "prefixes names requests one_size found rows told")
+# What is fitted by itself: a name (None of all), the requests by which, and what is found by them, which has their
+# groups.
+Part = collections.namedtuple("Part", "name requests found")
+# What comes of all: the prefixes of routes and their names (the rest first), the pool of each group, the requests by
+# these, those groups whose answers have one size, the part of each pool, what is found of all, the rows of the check,
+# and what is told of the routes, a line each.
+Result = collections.namedtuple("Result", "prefixes names pools requests one_size parts found rows told")
 
 
 def port(text):
@@ -175,8 +187,9 @@ def load_of(recorded):
     return Load(requests, columns["path"], list(recorded.paths), is_file, grain)
 
 
-def routes_of(load, words):
-    """The prefixes of the routes, those with the most segments first; and what is told of them, a line each."""
+def routes_of(load, words, behind=None):
+    """The prefixes of the routes, those with the most segments first; and what is told of them, a line each. Where it
+    is told which requests an upstream served, what it served the most of is apart."""
     told = []
     if words:
         prefixes = route_search.named(words)
@@ -186,7 +199,8 @@ def routes_of(load, words):
                 for one, count in zip(prefixes, counts) if count < least]
         prefixes = [one for one, count in zip(prefixes, counts) if count >= least]
     else:
-        prefixes = route_search.found(load.requests, load.is_file, load.path, load.names)
+        of = (load.requests, load.is_file, load.path, load.names)
+        prefixes = route_search.found(*of) if behind is None else route_search.found_beside(*of, behind)
         count, few = route_search.too_few(load.path, load.names, prefixes)
         if prefixes and few:
             told.append("%d requests on %s%s, fewer than %d each, are of the rest" % (
@@ -194,6 +208,39 @@ def routes_of(load, words):
                 " and %d other prefixes" % (len(few) - MOST_TOLD) if len(few) > MOST_TOLD else "",
                 route_search.LEAST_REQUESTS))
     return prefixes, told
+
+
+def pools_of(load, prefixes):
+    """The pool of each group, 1 where an upstream served the most of its requests; the rest has none."""
+    group, behind = groups_of(load, prefixes), ~load.requests.direct
+    counts = [numpy.bincount(group[kind], minlength=len(prefixes) + 1) for kind in (~behind, behind)]
+    pools = (counts[1] > counts[0]).astype(int)
+    if pools[0] and len(prefixes) < route_search.MOST_ROUTES and route_search.ROOT not in prefixes:
+        return pools_of(load, [*prefixes, route_search.ROOT])
+    pools[0] = 0
+    return prefixes, pools
+
+
+def strangers_of(load, group, pools):
+    """Which requests aren't of the pool that their paths tell: the proxy itself answered what an upstream does there,
+    or the other way round."""
+    return load.requests.direct == (pools[group] > 0)
+
+
+def pooled_routes(load, words, is_exact):
+    """The prefixes of the routes, the pool of each group, and what is told of them, a line each. There are pools where
+    enough requests tell of each that an upstream served them, or the proxy itself."""
+    if is_exact and load.requests.direct.any():
+        named, told = routes_of(load, words, ~load.requests.direct)
+        prefixes, pools = pools_of(load, named)
+        told += ["an upstream served the most of what is on no route: the settings have a route for all paths"] * (
+            len(prefixes) > len(named))
+        group = groups_of(load, prefixes)
+        sound = pools[group][~strangers_of(load, group, pools)]
+        if numpy.bincount(sound, minlength=len(POOLS)).min() >= LEAST_REQUESTS:
+            return prefixes, pools, told
+    prefixes, told = routes_of(load, words)
+    return prefixes, numpy.zeros(len(prefixes) + 1, int), told
 
 
 def shown(one):
@@ -233,33 +280,40 @@ def margins_beside(requests, groups):
     return cost_fit.SPREAD * numpy.std(found, axis=0) / math.sqrt(cost_fit.PIECES - 1)
 
 
-def first_fit(requests, half, alone, grain, is_exact, note):
+def first_fit(requests, half, alone, grain, is_exact, is_apart, note):
     """The fit that is chosen by the first half of requests and first estimates of costs, with which delays it has; and
-    the requests, in which the rest may need none of the servers. Of arrivals in whole seconds the times alone are
-    fitted."""
+    the requests, in which the rest may need none of the servers, unless it is known that all do. Of arrivals in whole
+    seconds the times alone are fitted."""
     if not is_exact:
         none = numpy.zeros(cost_fit.groups_of(alone))
         return requests, cost_fit.Fit(alone, none, cost_fit.ENOUGH, 0.0), cost_fit.NONE
     sample = cost_fit.sampled(cost_fit.chosen(requests, slice(half)), cost_fit.MOST_IN_CHOICE)
     best = cost_fit.chosen_fit(sample, grain, alone, note)
-    if best[0].error > cost_fit.WRONG and not requests.direct.any() and cost_fit.rest_seems_direct(sample, grain):
+    is_known = is_apart or requests.direct.any()
+    if best[0].error > cost_fit.WRONG and not is_known and cost_fit.rest_seems_direct(sample, grain):
         apart = cost_fit.chosen_fit(sample._replace(direct=sample.group == 0), grain, alone, note)
         if apart[0].error < cost_fit.APART * best[0].error:
             return requests._replace(direct=requests.group == 0), *apart
     return requests, *best
 
 
-def fits_of(requests, groups, grain, is_exact):
+def fits_of(requests, groups, grain, is_exact, others=None):
     """The requests of so many groups, those that came at the same time as they were begun; what is found by all; and
-    what the fit of the first half predicts of the second."""
+    what the fit of the first half predicts of the second, nan of the first. `others` don't count for a fit, but in a
+    replay they wait with them; they are among these requests then."""
     half, most = len(requests.arrivals) // 2, cost_fit.MOST_IN_FIT[groups > cost_fit.MANY]
     with tool_run.progress(TOOL, cost_fit.MODELS + cost_fit.PIECES, "fit") as bar:
-        alone = cost_fit.costs_alone(cost_fit.chosen(requests, slice(half)), groups)
-        requests, early, delays = first_fit(requests, half, alone, grain, is_exact, bar.update)
+        is_apart = others is not None
+        alone = cost_fit.costs_alone(cost_fit.chosen(requests, slice(half)), groups, QUIET if is_apart else 1)
+        requests, early, delays = first_fit(requests, half, alone, grain, is_exact, is_apart, bar.update)
         requests = cost_fit.in_turn(requests, early)
         first, second = (cost_fit.chosen(requests, part) for part in (slice(half), slice(half, None)))
         early = cost_fit.refined(cost_fit.sampled(first, most), grain, early, delays)
-        ahead = cost_fit.predicted(requests, early) + beside_of(first, groups)[requests.group]
+        every, late = requests, numpy.arange(len(requests.arrivals)) >= half
+        if is_apart:
+            every, order = cost_fit.merged(requests, others)
+            late = numpy.append(late, others.arrivals >= requests.arrivals[half])[order]
+        ahead = cost_fit.predicted(every, early) + beside_of(first, groups)[every.group]
         scale = cost_fit.best_scale(cost_fit.sampled(second, most), grain, early)
         sample = cost_fit.sampled(requests, most)
         later = numpy.where(early.costs > 0, early.costs, cost_fit.costs_alone(requests, groups))
@@ -268,13 +322,71 @@ def fits_of(requests, groups, grain, is_exact):
         of_costs, of_delays, of_work = cost_fit.margins(sample, grain, fit, delays, unclear, bar.update)
         needless = cost_fit.needless_kib(sample, fit, of_costs)
         if needless:
-            requests = cost_fit.without_kib(requests, needless)
+            every = cost_fit.without_kib(every, needless)
             fit = cost_fit.whole(cost_fit.without_kib(sample, needless), grain, fit, delays)
     fit = cost_fit.without_delays(fit, unclear)
     margin = min(MOST_MARGIN, max(1, math.ceil(100 * max(of_work, abs(scale - 1)))))
     of_delays = numpy.hypot(of_delays, margins_beside(requests, groups))
     found = Found(fit, beside_of(requests, groups), of_costs, of_delays, margin, unclear, needless)
-    return requests, found, ahead[half:]
+    return every, found, numpy.where(late, ahead, numpy.nan)
+
+
+def placed(found, groups, count):
+    """What is found of a pool at the places that its groups have among so many, by their places in it; 0 elsewhere."""
+    places = {one: other for place, group in groups.items() for one, other in zip(
+        cost_fit.places_of(place).values(), cost_fit.places_of(group).values())}
+
+    def spread(values, of, size):
+        result = numpy.zeros(size)
+        result[list(of.values())] = values[list(of)]
+        return result
+
+    size = cost_fit.OF_REST + cost_fit.OF_ROUTE * (count - 1)
+    costs, of_costs = (spread(values, places, size) for values in (found.fit.costs, found.costs_margin))
+    delays, beside, of_delays = (
+        spread(values, groups, count) for values in (found.fit.delays, found.beside, found.delays_margin))
+    unclear, needless = (
+        [groups[place] for place in of if place in groups] for of in (found.unclear, found.needless))
+    return Found(found.fit._replace(costs=costs, delays=delays), beside, of_costs, of_delays, found.margin, unclear,
+                 needless)
+
+
+def added(one, other):
+    """What is found of two pools as one; its servers are those of the first."""
+    def both(first, second, names):
+        return {name: getattr(first, name) + getattr(second, name) for name in names}
+
+    fit = one.fit._replace(**both(one.fit, other.fit, ("costs", "delays")))
+    return one._replace(fit=fit, **both(one, other, ("beside", "costs_margin", "delays_margin", "unclear", "needless")))
+
+
+def part_of(requests, name, groups, count, grain):
+    """The part of a pool with some groups among so many, by its requests; also all these, and what is predicted of
+    them. Those that are direct aren't of the pool."""
+    here = cost_fit.regrouped(requests, numpy.searchsorted(groups, requests.group))
+    own, others = (cost_fit.chosen(here, of) for of in (~here.direct, here.direct))
+    every, found, ahead = fits_of(own, len(groups), grain, True, others)
+    own = cost_fit.chosen(every, ~every.direct)
+    own, every = (cost_fit.regrouped(of, groups[of.group]) for of in (own, every))
+    places = {place: group for place, group in enumerate(groups.tolist()) if (own.group == group).any()}
+    return Part(name, own, placed(found, places, count)), every, ahead
+
+
+def fits_of_pools(requests, pools, grain):
+    """The same of each pool by its own requests: all of them, the part of each, what is found of all, and what is
+    predicted of the second halves."""
+    fits = []
+    for pool, name in enumerate(POOLS):
+        groups = numpy.union1d([0], numpy.flatnonzero(pools == pool))
+        here = cost_fit.chosen(requests, pools[requests.group] == pool)
+        fits.append(part_of(here, name, groups, len(pools), grain))
+    parts, several, ahead = zip(*fits)
+    requests, order = cost_fit.merged(*several)
+    works = [cost_fit.services_of(part.requests, part.found.fit.costs).mean() for part in parts]
+    longest = min(grain, max(works))  # of what is shorter than the steps of times no margin can be told
+    margin = max(part.found.margin for part, work in zip(parts, works) if work >= longest)
+    found = added(*(part.found for part in parts))._replace(margin=margin)
+    return requests, parts, found, numpy.concatenate(ahead)[order]
 
 
 def busy_share(requests):
@@ -307,12 +419,17 @@ def remarks_on_load(requests, fit):
     return lines
 
 
+def used_in(result):
+    """The places of the costs that some of the requests need by which these are fitted."""
+    return numpy.unique(numpy.concatenate([cost_fit.used_by(part.requests) for part in result.parts]))
+
+
 def tables_of(result):
     """The keys of the settings, each with its value and its margin (None of a count), for the rest and then for each
     route: what nothing needs, or is as the defaults have it, is left out. Raises Fault where the program takes no such
     value."""
     found, requests, tables = result.found, result.requests, []
-    fit, used = found.fit, cost_fit.used_by(requests)
+    fit, used = found.fit, used_in(result)
     delays = numpy.round(fit.delays + found.beside)
     has = numpy.bincount(requests.group, minlength=len(delays))
     default = 0 if has[0] else int(has.argmax())
@@ -340,16 +457,20 @@ def percent(value, margin):
     return "+-%.1f%%" % (100 * margin / value) if value and margin is not None else ""
 
 
-def document_of(tables, prefixes, margin, lines):
+def document_of(result, tables, lines):
     """The settings as a document, each figure with its margin."""
-    parts = ["".join("# %s\n" % line for line in (*lines, METHOD)) + settings_documents.margin_line(margin)]
+    comments = "".join("# %s\n" % line for line in (*lines, METHOD))
+    parts = [comments + settings_documents.margin_line(result.found.margin)]
     for group, entries in enumerate(tables):
         heading = "[costs]\n"
         if group:
-            heading = "[[route]]\nprefix = %s\n" % settings_documents.value_text(prefixes[group - 1] or "/")
+            heading = "[[route]]\nprefix = %s\n" % settings_documents.value_text(result.prefixes[group - 1] or "/")
         figures = [("%s = %d  # %s" % (key, value, percent(value, margin))).removesuffix("  # ") + "\n"
                    for key, value, margin in entries]
+        figures += ['pool = "%s"\n' % UPSTREAM] * bool(result.pools[group])
         parts += [heading + "".join(figures)] if group or figures else []
+        if group == 0 and result.pools.any():
+            parts.append('[[pool]]\nname = "%s"\nservers = %d\n' % (UPSTREAM, result.parts[1].found.fit.servers))
     return "\n".join(parts)
 
 
@@ -361,13 +482,16 @@ def figures_of(result, tables):
         delay = cells.get("delay", "as the rest" if rows and rows[0][-1] else "")
         rows.append([name, str(count), cells.get("file", cells.get("cost", "")), cells.get("kib", ""),
                      cells.get("error", ""), delay])
-    return [["microseconds", "requests", "file or cost", "kib", "error", "delay"], *rows]
+    heading = ["microseconds", "requests", "file or cost", "kib", "error", "delay"]
+    if result.pools.any():
+        heading, rows = [*heading, "pool"], [[*row, UPSTREAM * int(pool)] for row, pool in zip(rows, result.pools)]
+    return [heading, *rows]
 
 
 def told_of_keys(result):
     """What is to be known of the keys, a line each."""
     requests, found, names = result.requests, result.found, result.names
-    used = cost_fit.used_by(requests)
+    used = used_in(result)
     lines = ["costs.%s: nothing in the recording needs it" % key
              for key, place in cost_fit.places_of(0).items()
              if place not in used and not (key == "kib" and has_no_kib(result))]
@@ -389,27 +513,56 @@ def told_of_keys(result):
 def result_of(options, load, is_exact):
     """What comes of what was recorded. The rest is a route where a server works longer on an answer than costs can
     tell."""
-    prefixes, told = routes_of(load, options.route)
+    prefixes, pools, told = pooled_routes(load, options.route, is_exact)
     for _ in range(2):
         requests, one_size = grouped(load, prefixes, options.without_kib)
-        requests, found, ahead = fits_of(requests, len(prefixes) + 1, load.grain, is_exact)
+        if pools.any():
+            requests = requests._replace(direct=strangers_of(load, requests.group, pools))
+            requests, parts, found, ahead = fits_of_pools(requests, pools, load.grain)
+        else:
+            requests, found, ahead = fits_of(requests, len(prefixes) + 1, load.grain, is_exact)
+            parts = (Part(None, requests, found),)
         longest = max(found.fit.costs[cost_fit.fixed_places(0)])
         if longest <= settings_documents.RANGES["costs.file"][1]:
             break
         prefixes = [*prefixes, route_search.ROOT][-route_search.MOST_ROUTES:]
+        pools = numpy.append(0, numpy.append(pools[1:], 0)[-route_search.MOST_ROUTES:])
         told.append("a server works longer on an answer than costs.file and costs.error can tell: the settings have a "
                     "route for all paths, with one cost for any answer")
     names = [REST, *map(shown, prefixes)]
     rows = list(forecast_check.rows_of(requests, load.grain, ahead, names))
-    return Result(prefixes, names, requests, one_size, found, rows, told)
+    return Result(prefixes, names, pools, requests, one_size, parts, found, rows, told)
+
+
+def told_by(part, line):
+    """A line about a part, which begins with its name if it has one."""
+    return "%s: %s" % (part.name, line) if part.name else line
+
+
+def replayed(result):
+    """The times that a replay has of all requests, by what is found of all."""
+    requests, found = result.requests, result.found
+    times = found.beside[requests.group]
+    for pool, part in enumerate(result.parts):
+        here = result.pools[requests.group] == pool
+        fit = found.fit._replace(servers=part.found.fit.servers)
+        times[here] += cost_fit.predicted(cost_fit.chosen(requests, here), fit)
+    return times
 
 
 def remarks(result, recorded):
     """What is to be known about a fit, a line each."""
     requests, off = result.requests, [abs(off) for *_, off in forecast_check.judged(result.rows)]
     lines = [BEGUN] if recorded.is_begun else []
-    lines += remarks_on_load(requests, result.found.fit) if recorded.is_exact else [WHOLE_SECONDS]
-    if requests.direct.any():
+    for part in result.parts:
+        of_part = remarks_on_load(part.requests, part.found.fit) if recorded.is_exact else [WHOLE_SECONDS]
+        lines += [told_by(part, line) for line in of_part]
+    if result.pools.any():
+        here = result.pools[requests.group] > 0
+        counts = [(requests.direct & of).sum() for of in (here, ~here)]
+        lines += ["NOTE: on the routes of the pool the proxy itself answered %d requests, and on others an upstream "
+                  "%d: in a replay their paths decide" % tuple(counts)] * any(counts)
+    elif requests.direct.any():
         lines.append("NOTE: %.0f%% of the answers needed none of the servers that the others waited for, and in a "
                      "replay all wait for the same" % (100 * requests.direct.mean()))
     if forecast_check.GOOD < max(off) <= forecast_check.POOR:
@@ -428,13 +581,11 @@ def recorded_in(options):
 
 def write_outputs(options, result, tables, begin, end, shown_tables):
     """Writes the settings, and the page."""
-    found, requests = result.found, result.requests
     figures, check = map(forecast_check.aligned, shown_tables)
-    document = document_of(tables, result.prefixes, found.margin, [*begin, *figures, CHECK, *check, *end])
-    predicted = cost_fit.predicted(requests, found.fit) + found.beside[requests.group]
+    document = document_of(result, tables, [*begin, *figures, CHECK, *check, *end])
     outputs = [(options.output, lambda file: file.write(document)),
                (options.page, lambda file: file.write(calibrate_page.page_of(
-                   options.inputs, requests, predicted, [*begin, *end], shown_tables)))]
+                   options.inputs, result.requests, replayed(result), [*begin, *end], shown_tables)))]
     output_file.replace_all([(path, write) for path, write in outputs if path])
 
 
@@ -453,14 +604,14 @@ def work(options):
         tables = tables_of(result)
     except Fault as fault:
         raise Fault("%s: %s; look for wrong times in it" % (source, fault)) from None
-    requests, fit = result.requests, result.found.fit
+    requests = result.requests
     begin = ["%d requests in %.1f seconds%s" % (len(requests.arrivals), requests.arrivals[-1] / 1e6, left_out),
-             *result.told,
-             "best: %s (mean difference of roots %.2f)" % (servers_in_words(fit.servers), fit.error)]
+             *result.told, *(told_by(part, "best: %s (mean difference of roots %.2f)" % (
+                 servers_in_words(part.found.fit.servers), part.found.fit.error)) for part in result.parts)]
     end = [*told_of_keys(result), *remarks(result, recorded)]
     failure = ", ".join(forecast_check.failures_of(result.rows))
     if failure:
-        failure += "; " + forecast_check.advice_of(result.rows, requests.direct.any())
+        failure += "; " + forecast_check.advice_of(result.rows, requests.direct.any() and not result.pools.any())
         end.append("WARNING: the check fails: " + failure)
     shown_tables = figures_of(result, tables), forecast_check.table_of(result.rows)
     figures, check = map(forecast_check.aligned, shown_tables)

@@ -31,10 +31,12 @@ What a log can't tell, and what stands in its place:
                 earlier, and is put there. Apache's %t is when a worker took the request (with end:
                 it is the answer's, and %D or %T is taken off): a wait for a free worker is in none
                 of them, so of a server whose workers were all busy requests come too late.
-                HAProxy's is when the request was whole, taken for UTC. Without $msec (%{msec}t,
-                %{usec}t) the log has whole seconds: the requests of a second are spread evenly over
-                it, in the log's order. So bursts within a second are lost, and waits come out too
-                short: p99 was 5.1 ms in such a replay where the server's was 22 ms.
+                HAProxy's is when the request was whole, taken for UTC. Where the log has durations,
+                requests of the same time are put in the order in which they were begun: by how much
+                longer each took than the quickest on its path. Without $msec (%{msec}t, %{usec}t)
+                the log has whole seconds: the requests of a second are spread evenly over it, in the
+                log's order. So bursts within a second are lost, and waits come out too short: p99
+                was 5.1 ms in such a replay where the server's was 22 ms.
 
 --log-format takes the name of a format, or one in nginx's notation ($msec "$request" ..) or Apache's
 (%h %{msec}t "%r" ..). It needs $request, or $request_method and $request_uri (%r, or %m and %U%q);
@@ -142,12 +144,15 @@ class Totals:
         self.left_out = collections.Counter()
         self.firsts = {}  # the first line of each kind that is left out: file and number
         self.remarks = collections.Counter()
+        self.quickest = {}  # durations of answers by their paths
 
     def add(self, part):
         """Takes what was counted over a block."""
         self.lines += part.lines
         self.left_out += part.left_out
         self.remarks += part.remarks
+        for path, duration in part.quickest.items():
+            log_requests.take_quickest(self.quickest, path, duration)
         self.firsts = {**part.firsts, **self.firsts}
 
     def counts(self):
@@ -211,11 +216,11 @@ class Conversion:
         self.writer.stop()
 
 
-def ordered(store, reader):
-    """The requests that are kept, in the order in which they came."""
+def ordered(store, reader, quickest):
+    """The requests that are kept, in the order in which they came; with the quickest answers by their paths."""
     requests = store.requests()
     if reader.time.exact:
-        return requests
+        return log_blocks.begun(requests, quickest) if reader.took_name else requests
     requests = log_blocks.spread(requests)
     return log_blocks.by_arrival(requests) if reader.duration_name else requests
 
@@ -259,7 +264,7 @@ def convert():
         reader = read_logs(options, store, totals)
         conversion = Conversion(options, totals)
         with output_file.replacing(options.output) as file, tool_run.progress(TOOL, store.count, " requests") as bar:
-            for number, (time, _, tier, head) in enumerate(ordered(store, reader), 1):
+            for number, (time, _, tier, head) in enumerate(ordered(store, reader, totals.quickest), 1):
                 conversion.take(file, time, tier, head)
                 if number % TOLD_REQUESTS == 0:
                     bar.update(TOLD_REQUESTS)

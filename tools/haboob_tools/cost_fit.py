@@ -25,7 +25,7 @@ MOST_IN_CHOICE = 10_000  # requests by which the number of servers is chosen
 MOST_IN_FIT = 40_000, 15_000  # requests of few groups and of many
 BLOCK = 1_000  # requests in a row that are taken for a group that the others have few of
 ENOUGH_OF_GROUP = 200
-MOST_ALONE = 3_000  # requests of a group by which its costs are estimated at first
+LEAST_ALONE, MOST_ALONE = 50, 3_000  # requests of a group by which its costs are estimated at first
 LEAST_OF_KIB = 0.1  # of the time of the largest answer, which the cost of its KiB begins with
 FEW, MUCH = 0.15, 0.6  # parts of the costs without delays, and of their first estimate, that a delay begins with
 SIMPLER = 1.01  # a model with fewer servers, or delays, is taken where its error is at most so many times the least
@@ -68,6 +68,21 @@ def requests_of(arrivals, times, beside, tier, direct, group, is_file, kib):
 def chosen(requests, which):
     """The requests at some places."""
     return Requests(*(values[which] for values in requests))
+
+
+def regrouped(requests, group):
+    """The same requests in other groups; those of the rest stay of it."""
+    places = (numpy.where(group > 0, OF_ROUTE * group + of, before)
+              for of, before in ((1, requests.first), (2, requests.second)))
+    return requests._replace(group=group, **dict(zip(("first", "second"), places)))
+
+
+def merged(*parts):
+    """Requests of several parts by rising arrival, where they came at the same time those of the first part first; and
+    their places in all parts, one after the other."""
+    of_all = Requests(*map(numpy.concatenate, zip(*parts)))
+    order = numpy.argsort(of_all.arrivals, kind="stable")
+    return chosen(of_all, order), order
 
 
 def services_of(requests, costs):
@@ -191,12 +206,14 @@ def used_by(requests):
     return numpy.unique(numpy.concatenate((requests.first, requests.second[requests.kib > 0])))
 
 
-def costs_alone(requests, groups):
-    """The costs of so many groups, of each by its requests that found the fewest inside; that of a KiB isn't so low
-    that nothing would raise it any more."""
+def costs_alone(requests, groups, part=1):
+    """The costs of so many groups, of each by its requests that found the fewest inside, a part of them at the most;
+    that of a KiB isn't so low that nothing would raise it any more."""
     costs, inside = numpy.zeros(OF_REST + OF_ROUTE * (groups - 1)), found_inside(requests)
     for group in numpy.unique(requests.group):
-        some = chosen(requests, quietest(inside, numpy.flatnonzero(requests.group == group), MOST_ALONE))
+        places = numpy.flatnonzero(requests.group == group)
+        most = min(MOST_ALONE, max(LEAST_ALONE, int(part * len(places))))
+        some = chosen(requests, quietest(inside, places, most))
         used = used_by(some)
         costs[used] = least_absolute(work_of(some, used), some.times)
         if some.kib.any():

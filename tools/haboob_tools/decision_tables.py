@@ -19,6 +19,7 @@ import tomllib
 from .response_delays import Delays
 
 HEADING = "number connection tick tier status decision service credit rate start finish waited method target".split()
+POOL = "pool"  # the column between these where the settings have pools
 TIERS = 4
 LINE_ROOM = 65_536  # characters; no sound row is as long, since a request's head has at most 8,192 bytes
 PERCENTS = (50, 90, 99)
@@ -33,13 +34,12 @@ LINE_LIMIT = 1_000  # bytes that are read of what the program says
 DIGEST = "sha256"
 
 # A row of a table: numbers as such (None where there is none), the others as text.
-Row = collections.namedtuple("Row", HEADING)
+Row = collections.namedtuple("Row", [*HEADING, POOL], defaults=(None,))
 NUMBER = "([0-9]{1,18})"
 MAY_BE_ABSENT = "([0-9]{1,18}|)"
 VISIBLE = r"([!-+\--~]*)"  # visible ASCII but a comma; other bytes stand as escapes
 PARTS = {**dict.fromkeys(HEADING[:5], NUMBER), **dict.fromkeys(HEADING[6:12], MAY_BE_ABSENT), "tier": "([0-3])",
-         "decision": "(admitted|rejected|bypassed)", "method": VISIBLE, "target": VISIBLE}
-PATTERN = re.compile(",".join(PARTS[name] for name in HEADING) + "\n")
+         POOL: "([0-9]|1[0-6]|)", "decision": "(admitted|rejected|bypassed)", "method": VISIBLE, "target": VISIBLE}
 NEEDED = {"bypassed": (), "rejected": ("service", "credit", "rate", "waited"), "admitted": tuple(HEADING[6:12])}
 SHOWN = 20  # characters of what is wrong
 
@@ -62,38 +62,53 @@ def lines_of(file):
         yield number, line.decode("ascii", errors="surrogateescape")
 
 
-def fault_of(line, number):
-    """What is wrong with a line that is no row."""
-    fields = line.rstrip("\n").split(",")
-    if len(fields) != len(HEADING):
-        return Fault("row %d: not as many fields as the heading has" % number)
-    wrong = next(pair for pair in zip(HEADING, fields) if not re.fullmatch(PARTS[pair[0]], pair[1]))
-    return Fault("row %d: %s: %s isn't one" % (number, wrong[0], ascii(wrong[1][:SHOWN])))
+class Form:
+    """The columns of a table."""
+
+    def __init__(self, *names):
+        self.names = names
+        self.heading = ",".join(names) + "\n"
+        self.pattern = re.compile(",".join(PARTS[name] for name in names) + "\n")
+        self.needed = {decision: (*needed, POOL) if needed and POOL in names else needed
+                       for decision, needed in NEEDED.items()}
+
+    def fault_of(self, line, number):
+        """What is wrong with a line that is no row."""
+        fields = line.rstrip("\n").split(",")
+        if len(fields) != len(self.names):
+            return Fault("row %d: not as many fields as the heading has" % number)
+        wrong = next(pair for pair in zip(self.names, fields) if not re.fullmatch(PARTS[pair[0]], pair[1]))
+        return Fault("row %d: %s: %s isn't one" % (number, wrong[0], ascii(wrong[1][:SHOWN])))
+
+    def row_of(self, line, number):
+        """The row of a line; a fault where it is none."""
+        found = self.pattern.fullmatch(line)
+        if not found:
+            raise self.fault_of(line, number)
+        texts = found.groups()
+        counts = [int(text) if text else None for text in texts[6:-2]]  # the pool is the last, if it is there
+        row = Row(*map(int, texts[:5]), texts[5], *counts[:6], *texts[-2:], *counts[6:])
+        absent = next((name for name in self.needed[row.decision] if getattr(row, name) is None), None)
+        if absent:
+            raise Fault("row %d: %s: isn't there" % (number, absent))
+        if row.decision == "admitted" and not row.tick <= row.start <= row.finish:
+            raise Fault("row %d: tick, start and finish don't rise" % number)
+        return row
 
 
-def row_of(line, number):
-    """The row of a line; a fault where it is none."""
-    found = PATTERN.fullmatch(line)
-    if not found:
-        raise fault_of(line, number)
-    texts = found.groups()
-    row = Row(*map(int, texts[:5]), texts[5], *(int(text) if text else None for text in texts[6:12]), *texts[12:])
-    absent = next((name for name in NEEDED[row.decision] if getattr(row, name) is None), None)
-    if absent:
-        raise Fault("row %d: %s: isn't there" % (number, absent))
-    if row.decision == "admitted" and not row.tick <= row.start <= row.finish:
-        raise Fault("row %d: tick, start and finish don't rise" % number)
-    return row
+FORMS = (Form(*HEADING), Form(*HEADING[:12], POOL, *HEADING[12:]))
 
 
 def rows_of(file):
-    """The rows of a table of decisions in a file of bytes; a fault, with the row (the heading is 1), where it is
-    damaged."""
-    if file.readline(LINE_ROOM).decode("ascii", errors="replace") != ",".join(HEADING) + "\n":
+    """The rows of a table of decisions in a file of bytes, by its heading; a fault, with the row (the heading is 1),
+    where it is damaged."""
+    heading = file.readline(LINE_ROOM).decode("ascii", errors="replace")
+    form = next((form for form in FORMS if form.heading == heading), None)
+    if form is None:
         raise Fault("this is no table of decisions")
     tick = 0
     for number, line in lines_of(file):
-        row = row_of(line, number)
+        row = form.row_of(line, number)
         if row.tick < tick:
             raise Fault("row %d: the tick is lower than that of the row before" % number)
         tick = row.tick
@@ -143,12 +158,35 @@ class TierTally:
                 "greatest": samples[-1] if samples else None}
 
 
+class PoolTally:
+    """What is counted of the requests of one pool's servers."""
+
+    def __init__(self):
+        self.line = Queue()  # the requests that have come and aren't begun
+        self.most_waiting = 0  # of these at the most
+        self.longest_wait = 0
+        self.busy = 0  # for how long the servers worked, all added up
+
+    def take(self, row):
+        """Takes an admitted request; gives how many wait as it comes, itself too."""
+        waiting = self.line.admit(row.tick, row.start) if row.start > row.tick else 0
+        self.most_waiting = max(self.most_waiting, waiting)
+        self.longest_wait = max(self.longest_wait, row.start - row.tick)
+        self.busy += row.finish - row.start
+        return waiting
+
+    def figures(self):
+        """The figures by their names."""
+        return {"busy": self.busy, "most_waiting": self.most_waiting, "longest_wait": self.longest_wait}
+
+
 class Tally:
     """What is counted over the rows of a table, of which each response takes its delay besides."""
 
     def __init__(self, delays):
         self.delays = delays
         self.tiers = collections.defaultdict(TierTally)
+        self.pools = collections.defaultdict(PoolTally)  # by their numbers; none where the table has no such column
         self.queue = Queue()
         self.inside = 0  # the most requests that were admitted and not yet answered
         self.asked = self.missing = 0  # admitted requests that looked for a file, and those of them that found none
@@ -161,8 +199,11 @@ class Tally:
         if row.decision == "bypassed":
             return
         tier = self.tiers[row.tier]
+        pool = None if row.pool is None else self.pools[row.pool]
         self.first = row.tick if self.first is None else self.first
         if row.decision == "admitted":
+            if pool:
+                pool.take(row)
             self.last = max(self.last, row.finish)
             self.busy += row.finish - row.start
             self.asked += row.status in OF_FILES
@@ -180,7 +221,9 @@ class Tally:
         return {"rejected_while_idle": sum(tier.idle for tier in self.tiers.values()), "greatest": greatest,
                 "most_inside": self.inside, "busy": self.busy, "span": self.last - self.first if self.busy else 0,
                 "asked": self.asked, "missing": self.missing,
-                "tiers": {str(number): tier.figures() for number, tier in sorted(self.tiers.items())}}
+                "tiers": {str(number): tier.figures() for number, tier in sorted(self.tiers.items())},
+                **({"pools": {str(number): pool.figures() for number, pool in sorted(self.pools.items())}}
+                   if self.pools else {})}
 
 
 def report_figures(lines):

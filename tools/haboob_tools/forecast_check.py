@@ -29,10 +29,11 @@ def off_by(real, predicted, grain):
 
 
 def rows_of(requests, grain, ahead, names):
-    """The rows of the check: of the rest, of each route, of each tier where there are several, and of all."""
-    half = len(requests.arrivals) - len(ahead)
-    real = (requests.times + requests.beside)[half:]
-    group, tier = requests.group[half:], requests.tier[half:]
+    """The rows of the check: of the rest, of each route, of each tier where there are several, and of all. What is
+    predicted of the first half is nan."""
+    late = ~numpy.isnan(ahead)
+    real, ahead = (requests.times + requests.beside)[late], ahead[late]
+    group, tier = requests.group[late], requests.tier[late]
     parts = [(name, group == place) for place, name in enumerate(names)] if len(names) > 1 else []
     parts += [("tier %d" % one, tier == one) for one in numpy.unique(tier) if tier.any()]
     for name, here in [*parts, ("all", numpy.ones(len(ahead), bool))]:

@@ -10,7 +10,7 @@ import pickle
 import signal
 import tempfile
 
-from .log_requests import LINE_LIMIT, NEAR, RUN_LENGTH, SECOND, Block, packed, runs_of
+from .log_requests import LINE_LIMIT, NEAR, RUN_LENGTH, SECOND, Block, packed, path_of, runs_of
 from .tool_run import Fault
 
 BLOCK_BYTES = 4_194_304
@@ -183,6 +183,17 @@ class RequestStore:
             groups = (self.sequences[at:at + at_once] for at in range(0, len(self.sequences), at_once))
             self.sequences = [self._written(packed(self._merged(group))) for group in groups]
         return self._merged(self.sequences)
+
+
+def begun(requests, quickest):
+    """Requests of which those of the same arrival, up to HELD_REQUESTS, are in the order in which they were begun: by
+    how much longer each took than the quickest on its path. A log has them as they were answered, those with the least
+    work first."""
+    for _, group in itertools.groupby(requests, key=operator.itemgetter(0)):
+        while part := list(itertools.islice(group, HELD_REQUESTS)):
+            if len(part) > 1:
+                part.sort(key=lambda one: one[1] - quickest.get(path_of(one[3]), one[1]))
+            yield from part
 
 
 def spread(requests):

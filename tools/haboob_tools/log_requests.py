@@ -27,6 +27,10 @@ LETTERS = {b"n": b"\n", b"t": b"\t", b"r": b"\r", b"b": b"\b", b"f": b"\f", b"v"
 REQUEST = re.compile(rb"([!#$%&'*+\-.^_`|~0-9A-Za-z]+) ([\x21-\x7e]+) HTTP/([0-9](?:\.[0-9])?)")
 HOST = re.compile(rb"[A-Za-z0-9\-._~!$&'()*+,;=:\[\]%]+")
 CONTROL = re.compile(rb"[\x00-\x08\x0a-\x1f\x7f]")
+DIGITS = b"0123456789"
+PATHS_LIMIT = 65_536  # of which the quickest answer is kept
+PATH_LENGTH = 256  # bytes by which these are told apart
+REFUSED = (b"503", b"499")  # statuses of requests that were turned away, or for which nobody waited
 METHODS_WITH_BODY = (b"POST", b"PUT", b"PATCH")
 REQUEST_VARIABLES = ("request", "request_method", "request_uri", "server_protocol", "http_host", "host")
 FIELDS = {
@@ -59,6 +63,7 @@ class Part:
         self.left_out = collections.Counter()  # by kind
         self.firsts = {}  # the first line of each kind that is left out: file and number
         self.remarks = collections.Counter()
+        self.quickest = {}  # durations of answers by path_of
         self.requests = []  # time, duration, tier, head
         self.runs = b""  # the same by rising time, in runs
         self.count = 0  # of the requests
@@ -90,6 +95,19 @@ def escaped_byte(found):
     """What an escape stands for."""
     digits = found[1] or found[2]
     return bytes.fromhex(digits.decode()) if digits else LETTERS.get(found[3], found[3])
+
+
+def path_of(head):
+    """The beginning of the path that a head asks for, without its digits: what differs in numbers alone takes about as
+    long."""
+    return head.split(b" ", 2)[1].partition(b"?")[0].translate(None, DIGITS)[:PATH_LENGTH]
+
+
+def take_quickest(quickest, path, duration):
+    """Takes the duration of an answer into the quickest by their paths, of which there may be PATHS_LIMIT."""
+    before = quickest.get(path)
+    if before is None and len(quickest) < PATHS_LIMIT or before is not None and duration < before:
+        quickest[path] = duration
 
 
 def unescape(value):
@@ -157,8 +175,9 @@ class RequestReader:
         """Takes the format of the lines, and of the command line --host, --without, --tier, --from and --to."""
         self.time_name = next(name for name in TIMES if name in form.names)
         self.time = TIMES[self.time_name]
-        durations = [name for name in DURATIONS if name in form.names] if self.time.answered else []
-        self.duration_name = durations[0] if durations else None
+        duration = next((name for name in DURATIONS if name in form.names), None)
+        self.duration_name = duration if self.time.answered else None  # of what is taken off the time
+        self.took_name = duration if self.time.exact else None  # of what puts arrivals of one time in order
         self.needed = [self.time_name, *next(names for names in log_formats.REQUEST_NAMES if names <= set(form.names))]
         self.hosts = [name for name in ("http_host", "host") if name in form.names]
         self.host = options.host.encode()
@@ -169,8 +188,8 @@ class RequestReader:
         self.wants_client = any(rule.about == "client" for rule in options.tier)
         self.begin, self.end = options.begin, options.end
         self.form = form.reading({
-            self.time_name, self.duration_name, *REQUEST_VARIABLES, *(name for name, _ in self.fields),
-            *(["remote_addr"] if self.wants_client else [])})
+            self.time_name, self.duration_name, self.took_name, "status", *REQUEST_VARIABLES,
+            *(name for name, _ in self.fields), *(["remote_addr"] if self.wants_client else [])})
 
     def times_of(self, values):
         """Time and duration of a line, in microseconds; None where it tells no such time."""
@@ -179,6 +198,11 @@ class RequestReader:
             value = values.get(self.duration_name)
             duration = 0 if value in ABSENT else DURATIONS[self.duration_name](value)
         return None if time is None or duration is None else (time, duration)
+
+    def took(self, values):
+        """How long a line's request took, in microseconds; 0 where it doesn't tell it."""
+        value = values.get(self.took_name)
+        return 0 if value in ABSENT else DURATIONS[self.took_name](value) or 0
 
     def line(self, line):
         """Values, time and duration of a line; None where it doesn't fit the format."""
@@ -220,9 +244,9 @@ class RequestReader:
         values, time, duration = found
         if duration > BACK:
             return TOO_LONG
-        if self.time.exact:
-            time, duration = max(0, time - duration), 0
-        if time + SECOND <= self.begin or (self.end is not None and time - duration >= self.end):
+        arrival = max(0, time - duration)
+        if (arrival if self.time.exact else time) + SECOND <= self.begin or (
+                self.end is not None and arrival >= self.end):
             return OUTSIDE
         head = self.head_of(values, part)
         if head is None:
@@ -230,7 +254,11 @@ class RequestReader:
             return WITHOUT % self.form.shown[name] if name else NO_REQUEST
         client = client_of(values.get("remote_addr") or b"") if self.wants_client else None
         tier = self.tiers and capture_writer.tier_of(self.tiers, client, capture_writer.target_of(head))
-        part.requests.append((time, duration, tier or 0, head))
+        if self.took_name:
+            duration = duration if self.duration_name else self.took(values)
+            if values.get("status") not in REFUSED:
+                take_quickest(part.quickest, path_of(head), duration)
+        part.requests.append((arrival if self.time.exact else time, duration, tier or 0, head))
         return None
 
     def head_of(self, values, part):

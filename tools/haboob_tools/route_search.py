@@ -129,13 +129,8 @@ def with_shorter(apart, samples):
     return apart
 
 
-def found(requests, is_file, path, names):
-    """The prefixes of the routes that are found, the narrow ones first. `path` is the place of each request's path
-    among the names, -1 where it has none."""
-    prefixes = with_enough(names, numpy.bincount(path[path >= 0], minlength=len(names)))
-    if not prefixes:
-        return []
-    on = numpy.append(places_on(prefixes, names), 0)[path]
+def samples_of(requests, is_file, on, prefixes):
+    """The samples of prefixes, each of the requests on it: `on` has the places of their prefixes from 1."""
     inside = cost_fit.found_inside(requests)
     work = numpy.column_stack((is_file, requests.kib, ~is_file)).astype(float)
     samples = {}
@@ -143,6 +138,22 @@ def found(requests, is_file, path, names):
         places = numpy.flatnonzero(on == place)
         some = cost_fit.quietest(inside, places, max(LEAST_SAMPLED, min(MOST_SAMPLED, len(places) // 4)))
         samples[prefix] = Sample(work[some], requests.times[some], len(places))
+    return samples
+
+
+def dearest(kept):
+    """As many prefixes as there may be routes, those with the most work, the narrow ones first."""
+    return narrow_first(sorted(kept, key=lambda prefix: -kept[prefix].count * numpy.median(kept[prefix].times))[
+        :MOST_ROUTES])
+
+
+def found(requests, is_file, path, names):
+    """The prefixes of the routes that are found, the narrow ones first. `path` is the place of each request's path
+    among the names, -1 where it has none."""
+    prefixes = with_enough(names, numpy.bincount(path[path >= 0], minlength=len(names)))
+    if not prefixes:
+        return []
+    samples = samples_of(requests, is_file, numpy.append(places_on(prefixes, names), 0)[path], prefixes)
     apart = apart_from_rest(samples)
     if not apart:
         return []
@@ -152,5 +163,32 @@ def found(requests, is_file, path, names):
         over = next((one for one in below(prefix) if one in routes), prefix)
         if over != prefix and not are_alike(routes[over], sample):
             kept[prefix] = sample
-    most = sorted(kept, key=lambda prefix: -kept[prefix].count * numpy.median(kept[prefix].times))[:MOST_ROUTES]
-    return narrow_first(most)
+    return dearest(kept)
+
+
+def found_beside(requests, is_file, path, names, behind):
+    """The same where an upstream served some of the requests, those `behind`, and the proxy itself the others: a prefix
+    on which it served the most is a route, or below one."""
+    prefixes = [*with_enough(names, numpy.bincount(path[path >= 0], minlength=len(names))), ROOT]
+    on = numpy.append(places_on(prefixes, names), 0)[path]
+    own, of_upstream = (numpy.bincount(on[kind], minlength=len(prefixes) + 1)[1:] for kind in (~behind, behind))
+    is_behind = dict(zip(prefixes, (of_upstream > own).tolist()))
+    if of_upstream[-1] < LEAST_REQUESTS or not is_behind[ROOT]:
+        del is_behind[ROOT]  # what is on no other prefix is of the rest
+    samples = {}
+    for kind in (False, True):
+        here = behind == kind
+        these = samples_of(cost_fit.chosen(requests, here), is_file[here], on[here], prefixes)
+        samples |= {prefix: these[prefix] for prefix in is_behind if is_behind[prefix] == kind}
+    routes = {}
+    for kind in (True, False):
+        apart = {prefix: sample for prefix, sample in samples.items() if is_behind[prefix] == kind}
+        apart = apart_from_rest(apart) if apart and not kind else apart
+        joined_ones = with_shorter(dict(apart), samples | routes) if apart else {}
+        routes |= joined_ones
+        is_behind |= dict.fromkeys(joined_ones, kind)
+    for prefix in sorted(samples, key=lambda prefix: prefix.count("/")):
+        over = next((one for one in below(prefix) if one in routes), prefix)
+        if over != prefix and (is_behind[over] != is_behind[prefix] or not are_alike(routes[over], samples[prefix])):
+            routes[prefix] = samples[prefix]
+    return dearest(routes)

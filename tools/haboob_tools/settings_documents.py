@@ -13,9 +13,11 @@ TIERS = ("policy", "tier1", "tier2", "tier3")  # the tables of the tiers 0 to 3
 RATES = ("rate", "rate_min", "rate_max", "up")  # in thousandths a second
 FIXED_RATE = "fixed_rate"  # this project's tools' own word: rate, rate_min and rate_max alike
 RATES_OF_FIXED = ("rate_min", "rate", "rate_max")
-ROUTE = "route"  # the name of the list of routes
+ROUTE, POOL = "route", "pool"  # the names of the lists of routes and of pools
+LISTS = (POOL, ROUTE)  # in the order in which a document has them
 OF_ROUTE = ("cost", "kib", "delay")  # the keys of a route that are integers
-SERVERS = "costs.servers"  # the key that says how many work side by side
+OF_POOL = ("servers",)  # and of a pool
+SERVERS = "costs.servers"  # the key that says how many work side by side on what no pool serves
 COSTS = ("file", "kib", "error")  # the keys of the table of costs that are a server's work
 NAME = re.compile(r"[A-Za-z0-9_-]+")
 MARGIN = re.compile(rb"^# margin ([1-9][0-9]?) percent of all costs$", re.MULTILINE)
@@ -40,14 +42,14 @@ def checked(path, name, table):
     return table
 
 
-def checked_routes(path, routes):
-    """The list of routes, where each is a table that holds nothing but integers and texts."""
-    if type(routes) is not list or any(type(route) is not dict for route in routes):
-        raise Fault("%s: %s: no list of tables" % (path, ROUTE))
-    for key, value in (entry for route in routes for entry in route.items()):
+def checked_list(path, name, tables):
+    """A list of routes or of pools, where each is a table that holds nothing but integers and texts."""
+    if type(tables) is not list or any(type(table) is not dict for table in tables):
+        raise Fault("%s: %s: no list of tables" % (path, name))
+    for key, value in (entry for table in tables for entry in table.items()):
         if not NAME.fullmatch(key) or type(value) not in (int, str):
-            raise Fault("%s: %s.%s: neither an integer nor a text" % (path, ROUTE, key))
-    return routes
+            raise Fault("%s: %s.%s: neither an integer nor a text" % (path, name, key))
+    return tables
 
 
 def parsed(text, path):
@@ -58,7 +60,7 @@ def parsed(text, path):
         tables = tomllib.loads(text.decode())
     except (ValueError, RecursionError) as error:  # also of bytes that are no UTF-8
         raise Fault("%s: no TOML document: %s" % (path, error)) from None
-    return {name: checked_routes(path, table) if name == ROUTE else checked(path, name, table)
+    return {name: checked_list(path, name, table) if name in LISTS else checked(path, name, table)
             for name, table in tables.items()}
 
 
@@ -87,10 +89,16 @@ def margin_of(path):
     return found and int(found[1])
 
 
-def route_key(key):
-    """The prefix and the name of a key of a route, as route./api.cost; None of another key."""
+def listed_key(key):
+    """The list, what tells one of its tables, and the name of a key as route./api.cost or pool.api.servers; None of
+    another key."""
     table, _, rest = key.partition(".")
-    return rest.rpartition(".")[::2] if table == ROUTE else None
+    return (table, *rest.rpartition(".")[::2]) if table in LISTS else None
+
+
+def is_name(key):
+    """Whether a key's values are names, of pools."""
+    return key.startswith(ROUTE + ".") and key.endswith("." + POOL)
 
 
 def routes_of(tables, prefix):
@@ -99,19 +107,26 @@ def routes_of(tables, prefix):
             if segments_of_prefix(str(route.get("prefix"))) == segments_of_prefix(prefix)]
 
 
+def pools_of(tables, name):
+    """The pools of a document with this name, which are one at most unless it has one twice."""
+    return [pool for pool in tables.get(POOL, []) if pool.get("name") == name]
+
+
 def with_values(base, keys, values):
-    """The tables of a base with values in the place of its own."""
-    tables = collections.defaultdict(dict, {name: dict(table) for name, table in base.items() if name != ROUTE})
-    if ROUTE in base:
-        tables[ROUTE] = [dict(route) for route in base[ROUTE]]
+    """The tables of a base with values in the place of its own. A pool that no route names any more isn't there."""
+    tables = collections.defaultdict(dict, {
+        name: [dict(one) for one in table] if name in LISTS else dict(table) for name, table in base.items()})
     for key, value in zip(keys, values):
         table, _, name = key.partition(".")
-        if table == ROUTE:
-            prefix, name = route_key(key)
-            routes_of(tables, prefix)[0][name] = value
+        if table in LISTS:
+            _, which, name = listed_key(key)
+            (routes_of if table == ROUTE else pools_of)(tables, which)[0][name] = value
         else:
             names = RATES_OF_FIXED if name == FIXED_RATE else (name,)
             tables[table].update(dict.fromkeys(names, value))
+    if POOL in tables:
+        before, after = ({route.get(POOL) for route in of.get(ROUTE, [])} for of in (base, tables))
+        tables[POOL] = [pool for pool in tables[POOL] if pool.get("name") not in before - after]
     return tables
 
 
@@ -130,9 +145,9 @@ def with_costs(tables, defaults, percent):
 
 
 def text_of(tables):
-    """The tables of a document as TOML: tables and keys by rising names, and then the routes in their order."""
-    parts = [("[%s]\n" % table, entries) for table, entries in sorted(tables.items()) if table != ROUTE]
-    parts += [("[[%s]]\n" % ROUTE, route) for route in tables.get(ROUTE, [])]
+    """The tables of a document as TOML: tables and keys by rising names, and then pools and routes in their order."""
+    parts = [("[%s]\n" % table, entries) for table, entries in sorted(tables.items()) if table not in LISTS]
+    parts += [("[[%s]]\n" % name, one) for name in LISTS for one in tables.get(name, [])]
     return "\n".join(heading + "".join("%s = %s\n" % (key, value_text(value)) for key, value in sorted(entries.items()))
                      for heading, entries in parts)
 
@@ -173,9 +188,14 @@ def titled(key):
 
 
 def servers_of(tables):
-    """How many servers there are by a document's tables; one where they don't say."""
+    """How many servers each pool has by a document's tables, that without a name first: one where they don't say."""
     table, _, name = SERVERS.partition(".")
-    return tables.get(table, {}).get(name, 1)
+    return [of.get(name, 1) for of in (tables.get(table, {}), *tables.get(POOL, []))]
+
+
+def names_of_pools(tables):
+    """The pools of a document as its keys begin: costs, and pool.api."""
+    return [SERVERS.partition(".")[0], *("%s.%s" % (POOL, pool.get("name")) for pool in tables.get(POOL, []))]
 
 
 def policy_of(tier, tables, defaults):

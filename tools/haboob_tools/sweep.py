@@ -35,21 +35,24 @@ TOOL = "sweep"
 EXPLANATION = """\
 Each combination of the values is a run of `haboob explain` for each capture, with the settings of
 --settings and the values in their place. A key is any one of the settings that is a single integer:
-policy.depth, tier1.rate, costs.kib; of a route of --settings route./api.cost, its kib or delay. Rates
-are in thousandths a second, or with /s in requests a second: policy.rate=1000000 is
-policy.rate=1000/s. policy.fixed_rate is no key of the program: it sets rate, rate_min and rate_max
-alike, as servers do that have no controller. (The program refuses a rate outside rate_min and
-rate_max.) FOLDER gets
+policy.depth, tier1.rate, costs.kib; of a route of --settings route./api.cost, its kib or delay; of a
+pool of --settings pool.api.servers. route./api.pool takes names of these pools; one that no route names
+any more is left out. Rates are in thousandths a second, or with /s in requests a second:
+policy.rate=1000000 is policy.rate=1000/s. policy.fixed_rate is no key of the program: it sets rate,
+rate_min and rate_max alike, as servers do that have no controller. (The program refuses a rate outside
+rate_min and rate_max.) FOLDER gets
 
   sweep.html      the combinations by requests turned away and p99, what each key changes, and the
                   combinations that no other beats
   sweep.csv       a row for each combination, the last key's values changing first: the values;
                   admitted, rejected, rejected_while_idle; p50, p90, p99, greatest (microseconds);
                   busy_share (0 to 1); unbeaten and chosen (1 or 0); turned_away (percent);
-                  most_inside; row; capture; the figures of each tier, where there are several;
-                  with --margin those at its ends (lower.p99, upper.p99 ..); fault: what the
-                  program says where it refuses the settings, and there are no figures then; the
-                  file of the settings
+                  most_inside; row; capture; the figures of each tier, where there are several; of
+                  each pool, where the settings have some (costs: the servers of no pool),
+                  busy_share of its own servers, most_waiting (the most requests that had come and
+                  weren't begun) and longest_wait; with --margin those at its ends (lower.p99,
+                  upper.p99 ..); fault: what the program says where it refuses the settings, and
+                  there are no figures then; the file of the settings
   settings/       the settings of each combination, to be taken as they are, and those at the ends of
                   a margin
   results/        the figures of each run. After an interruption the same command goes on; and any
@@ -95,7 +98,7 @@ examples:
 KIND = "haboob-sweep 3"  # to be raised where the figures of a result get another meaning
 DIGITS = 16  # hexadecimal ones of a file's name
 RESULT_ROOM = 65_536  # bytes that are read of a result; a sound one has some hundreds
-SETTING = re.compile(r"(route[.]/[^=]*[.][a-z]+|[A-Za-z0-9_-]+[.][A-Za-z0-9_-]+)=(.*)")
+SETTING = re.compile(r"((?:route[.]/|pool[.])[^=]*[.][a-z]+|[A-Za-z0-9_-]+[.][A-Za-z0-9_-]+)=(.*)")
 RANGE = re.compile(r"([^.,]+)[.][.]([^.,]+)")
 ADDRESS = re.compile(r"(?:(?:tcp|tls)://)?[^/]+:[0-9]+")
 INTEGER = re.compile(r"(-?[0-9]{1,15})(/s)?")
@@ -119,6 +122,8 @@ Limit = collections.namedtuple("Limit", "name tier figure most")
 
 def value_of(key, word):
     """The value of a word of the command line for a key."""
+    if settings_documents.is_name(key):
+        return word
     found = INTEGER.fullmatch(word)
     if not found:
         raise argparse.ArgumentTypeError("%s: %s" % (key, "%r is no integer" % word if word else "no value"))
@@ -132,7 +137,7 @@ def setting(text):
     found = SETTING.fullmatch(text)
     if not found:
         raise argparse.ArgumentTypeError("%r is no TABLE.KEY=VALUE,VALUE.." % text)
-    ends = RANGE.fullmatch(found[2])
+    ends = None if settings_documents.is_name(found[1]) else RANGE.fullmatch(found[2])
     values = [value_of(found[1], word) for word in (ends.groups() if ends else found[2].split(","))]
     if len(set(values)) < len(values):
         raise argparse.ArgumentTypeError("%s: a value comes twice" % found[1])
@@ -464,8 +469,8 @@ class Sweep:
 
     def combination(self, point, documents):
         """The combination of values whose documents were run."""
-        servers = settings_documents.servers_of(settings_documents.with_values(self.base, self.keys, point))
-        results, *ends = [[sweep_figures.of_servers(self.results.read(text, place), servers)
+        tables = settings_documents.with_values(self.base, self.keys, point)
+        results, *ends = [[sweep_figures.of_servers(self.results.read(text, place), tables)
                            for place in range(len(self.options.captures))] for text in documents]
         path = self.path(documents[0]).relative_to(self.folder)
         return Combination(0, tuple(point), str(path), results, ends)
@@ -496,15 +501,25 @@ def tried(options, sweep, resources):
     return sweep.combinations(list(itertools.product(*(one.values for one in options.grid))), resources)
 
 
-def check_route(key, base):
-    """Refuses a key of a route that the settings don't have."""
-    prefix, name = settings_documents.route_key(key)
-    if name not in settings_documents.OF_ROUTE:
-        raise Fault("--set: %s: a route has %s" % (key, ", ".join(settings_documents.OF_ROUTE)))
-    if not settings_documents.routes_of(base, prefix):
-        known = [str(route.get("prefix")) for route in base.get(settings_documents.ROUTE, [])]
-        raise Fault("--set: %s: --settings has no route with the prefix %s%s" % (
-            key, prefix, "; it has %s" % ", ".join(known) if known else ""))
+def check_listed(one, base):
+    """Refuses a key of a route or a pool that the settings don't have, and a value that names no pool of theirs."""
+    table, which, name = settings_documents.listed_key(one.key)
+    is_route = table == settings_documents.ROUTE
+    keys = (*settings_documents.OF_ROUTE, settings_documents.POOL) if is_route else settings_documents.OF_POOL
+    if name not in keys:
+        raise Fault("--set: %s: a %s has %s" % (one.key, table, ", ".join(keys)))
+    if is_route and not settings_documents.routes_of(base, which):
+        raise no_such(one.key, base, settings_documents.ROUTE, "prefix", which)
+    for pool in one.values if settings_documents.is_name(one.key) else [] if is_route else [which]:
+        if not settings_documents.pools_of(base, pool):
+            raise no_such(one.key, base, settings_documents.POOL, "name", pool)
+
+
+def no_such(key, base, table, told_by, word):
+    """The fault of a key about a route or a pool that the settings don't have, which names those that they have."""
+    known = [str(one.get(told_by)) for one in base.get(table, [])]
+    return Fault("--set: %s: --settings has no %s with the %s %s%s" % (
+        key, table, told_by, word, "; it has %s" % ", ".join(known) if known else ""))
 
 
 def checked_base(options, runner):
@@ -512,12 +527,12 @@ def checked_base(options, runner):
     defaults = settings_documents.parsed(runner.default_settings().encode(), "haboob settings")
     known = settings_documents.keys_of(defaults)
     base = settings_documents.read(options.settings)
-    for key in (one.key for one in options.grid):
-        if settings_documents.route_key(key):
-            check_route(key, base)
+    for one in options.grid:
+        if settings_documents.listed_key(one.key):
+            check_listed(one, base)
         else:
-            settings_documents.refuse_unknown(key, known, "--set: ")
-    tables = {table: entries for table, entries in base.items() if table != settings_documents.ROUTE}
+            settings_documents.refuse_unknown(one.key, known, "--set: ")
+    tables = {table: entries for table, entries in base.items() if table not in settings_documents.LISTS}
     for key in ("%s.%s" % (table, name) for table, entries in tables.items() for name in entries):
         settings_documents.refuse_unknown(key, known[:-len(settings_documents.TIERS)], "%s: " % options.settings)
     return base, defaults

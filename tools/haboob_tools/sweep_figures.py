@@ -3,11 +3,16 @@ import collections
 import functools
 import math
 
+from . import settings_documents
+
 ANY = "any"  # in the place of a key's value where all its values give the same figures
 COUNTED = ("admitted", "rejected", "rejected_while_idle", "p50", "p90", "p99", "greatest")
 OF_TIER = ("turned_away", "rejected", "rejected_while_idle", "p50", "p90", "p99", "greatest")
 LIMITED = (*OF_TIER, "most_inside", "busy_share")
 COLUMNS_OF_TIER = ("admitted", *OF_TIER)
+COLUMNS_OF_POOL = ("busy_share", "most_waiting", "longest_wait")
+OF_POOL = ("busy", "most_waiting", "longest_wait")  # in a result
+POOLS = {str(number) for number in range(17)}
 IN_RESULT = (*COUNTED, "most_inside", "busy", "span", "asked", "missing")
 TIMES = ("p50", "p90", "p99", "greatest")
 TICKS_IN_MILLISECOND, TICKS_IN_SECOND = 1000, 1_000_000
@@ -61,12 +66,14 @@ def is_result(value):
 
     if not isinstance(value, dict) or isinstance(value.get("fault"), str):
         return isinstance(value, dict)
-    tiers = value.get("tiers")
+    tiers, pools = value.get("tiers"), value.get("pools", {})
     return (are_counts(value, IN_RESULT) and all(name in value for name in IN_RESULT) and isinstance(tiers, dict)
             and all(is_count(value[name]) for name in (*COUNTED[:3], "busy", "span", "asked", "missing"))
             and all(number in ("0", "1", "2", "3") and are_counts(tier, COUNTED)
                     and all(is_count(tier.get(name)) for name in ("admitted", "rejected"))
-                    for number, tier in tiers.items()))
+                    for number, tier in tiers.items())
+            and isinstance(pools, dict) and all(number in POOLS and isinstance(pool, dict) and all(
+                is_count(pool.get(name)) for name in OF_POOL) for number, pool in pools.items()))
 
 
 def share_of(result):
@@ -75,16 +82,28 @@ def share_of(result):
     return 100 * result["rejected"] / offered if offered else 0.0
 
 
-def of_servers(result, servers):
-    """A result with the number of servers by its settings, which its work is shared among; a fault has none."""
-    return result if "fault" in result else {**result, "servers": servers}
+def of_servers(result, tables):
+    """A result with the number of servers by the tables of its settings, which its work is shared among, and with its
+    pools by their names there; a fault has none."""
+    if "fault" in result:
+        return result
+    servers, names = settings_documents.servers_of(tables), settings_documents.names_of_pools(tables)
+    pools = {names[place]: {**result["pools"][str(place)], "servers": servers[place]}
+             for place in range(len(names)) if str(place) in result.get("pools", {})}
+    return {**result, "servers": sum(servers), "pools": pools}
+
+
+def busy_share(work, span):
+    """The part of a span for which servers worked; None without a span."""
+    return work["busy"] / (span * work["servers"]) if span else None
 
 
 def with_shares(result):
     """The figures of a result, with its shares."""
     tiers = {number: {**tier, "turned_away": share_of(tier)} for number, tier in result["tiers"].items()}
-    busy = result["busy"] / (result["span"] * result["servers"]) if result["span"] else None
-    return {**result, "turned_away": share_of(result), "busy_share": busy, "tiers": tiers}
+    pools = {name: {**pool, "busy_share": busy_share(pool, result["span"])} for name, pool in result["pools"].items()}
+    return {**result, "turned_away": share_of(result), "busy_share": busy_share(result, result["span"]),
+            "tiers": tiers, "pools": pools}
 
 
 def worst_of(figures, names):
@@ -99,10 +118,10 @@ def worst(results):
     if fault is not None:
         return {"fault": fault}
     figures = [with_shares(result) for result in results]
-    tiers = sorted({number for one in figures for number in one["tiers"]})
-    of_tiers = {number: worst_of([one["tiers"][number] for one in figures if number in one["tiers"]], COLUMNS_OF_TIER)
-                for number in tiers}
-    return {**worst_of(figures, ("admitted", *LIMITED)), "tiers": of_tiers}
+    parts = {part: {name: worst_of([one[part][name] for one in figures if name in one[part]], columns)
+                    for name in sorted({name for one in figures for name in one[part]})}
+             for part, columns in (("tiers", COLUMNS_OF_TIER), ("pools", COLUMNS_OF_POOL))}
+    return {**worst_of(figures, ("admitted", *LIMITED)), **parts}
 
 
 def joined(combinations, place, count):
@@ -195,29 +214,37 @@ def cost_of(combination, limits):
 
 
 def warnings_of(chosen, rate, margin):
-    """What is to be known about the chosen combination, at the upper end of a margin in percent if there is one, a line
-    each; `rate` is how many requests a second its policies let in as long as the load lasts, None where a controller
-    moves that."""
+    """What is to be known about the chosen combination, of each pool where there are some, at the upper end of a margin
+    in percent if there is one, a line each; `rate` is how many requests a second its policies let in as long as the
+    load lasts, None where a controller moves that."""
     if chosen is None:
         return []
     at = " at costs %d%% higher" % margin if margin else ""
-    busy = chosen.all_figures()[-1]["busy_share"] or 0
-    works = [result["busy"] / (result["admitted"] * result["servers"] * TICKS_IN_SECOND)
-             for result in [chosen.results, *chosen.ends][-1] if result["admitted"]]
-    borne = max(works) * (rate or 0)
-    lines = ["WARNING: row %d keeps the server busy for %.0f%% of its time%s: above %.0f%% a little more traffic waits "
-             "ever longer" % (chosen.row, 100 * busy, at, 100 * BUSY)] * (busy > BUSY)
-    return lines + ["WARNING: row %d lets in %g requests a second, %.0f%% of what the server bears%s: above %.0f%% a "
-                    "load that lasts waits ever longer" % (
-                        chosen.row, rate or 0, 100 * borne, at, 100 * BUSY)] * (borne > BUSY)
+    figures, results = chosen.all_figures()[-1], [chosen.results, *chosen.ends][-1]
+    lines = []
+    for name in figures["pools"] or [None]:
+        who = "the server of %s" % name if name else "the server"
+        busy = (figures["pools"][name] if name else figures)["busy_share"] or 0
+        parts = [(result["admitted"], result["pools"].get(name) if name else result) for result in results]
+        works = [work["busy"] / (admitted * work["servers"] * TICKS_IN_SECOND)
+                 for admitted, work in parts if admitted and work]
+        borne = max(works, default=0) * (rate or 0)
+        lines += ["WARNING: row %d keeps %s busy for %.0f%% of its time%s: above %.0f%% a little more traffic waits "
+                  "ever longer" % (chosen.row, who, 100 * busy, at, 100 * BUSY)] * (busy > BUSY)
+        lines += ["WARNING: row %d lets in %g requests a second, %.0f%% of what %s bears%s: above %.0f%% a load that "
+                  "lasts waits ever longer" % (
+                      chosen.row, rate or 0, 100 * borne, who, at, 100 * BUSY)] * (borne > BUSY)
+    return lines
 
 
-def cells_of(figures, tiers):
-    """The cells of a row for figures: those of all, and those of each of several tiers."""
+def cells_of(figures, tiers, pools):
+    """The cells of a row for figures: those of all, and those of each of several tiers, and of each pool."""
     of_all = [figures.get(name) for name in COUNTED]
-    of_tiers = [figures.get("tiers", {}).get(tier, {}).get(name) for tier in tiers for name in COLUMNS_OF_TIER]
+    of_parts = [figures.get("tiers", {}).get(tier, {}).get(name) for tier in tiers for name in COLUMNS_OF_TIER]
+    of_parts += [rounded(name, figures.get("pools", {}).get(pool, {}).get(name))
+                 for pool in pools for name in COLUMNS_OF_POOL]
     share, busy = (rounded(name, figures.get(name)) for name in ("turned_away", "busy_share"))
-    return [*of_all, busy], [share, figures.get("most_inside")], of_tiers
+    return [*of_all, busy], [share, figures.get("most_inside")], of_parts
 
 
 def rounded(name, value):
@@ -231,20 +258,26 @@ def several_tiers(combinations):
     return tiers if tiers != ["0"] else []
 
 
+def pools_in(combinations):
+    """The pools, by rising names, that a request was offered to; none where the settings have none."""
+    return sorted({pool for one in combinations for pool in one.figures.get("pools", {})})
+
+
 def table_of(keys, captures, combinations, unbeaten, chosen):
     """The heading and the rows of the table. Of several captures the worst figures come first, then those of each."""
-    tiers = several_tiers(combinations)
+    tiers, pools = several_tiers(combinations), pools_in(combinations)
     ends = ENDS if any(one.ends for one in combinations) else ()
     heading = [*keys, *COUNTED, "busy_share", "unbeaten", "chosen", "turned_away", "most_inside", "row", "capture",
                *("tier%s.%s" % (tier, name) for tier in tiers for name in COLUMNS_OF_TIER),
+               *("%s.%s" % (pool, name) for pool in pools for name in COLUMNS_OF_POOL),
                *("%s.%s" % (end, name) for end in ends for name in AT_ENDS), "fault", "settings"]
     rows = []
     for one in combinations:
         for capture, (figures, *at_ends) in parts_of(one, captures):
-            first, second, of_tiers = cells_of(figures, tiers)
+            first, second, of_parts = cells_of(figures, tiers, pools)
             marks = [int(one in unbeaten), int(chosen is not None and one.row == chosen.row)]
             of_ends = [rounded(name, of.get(name)) for of in at_ends for name in AT_ENDS]
-            rows.append([*one.values, *first, *marks, *second, one.row, capture, *of_tiers, *of_ends,
+            rows.append([*one.values, *first, *marks, *second, one.row, capture, *of_parts, *of_ends,
                          figures.get("fault"), one.settings])
     return heading, rows
 

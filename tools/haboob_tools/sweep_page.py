@@ -6,7 +6,8 @@ import statistics
 
 from . import pages, settings_documents, tool_run
 from .pages import pyplot, ticker
-from .sweep_figures import ANY, DEFINITIONS, TICKS_IN_MILLISECOND, TIMES, comparable, parts_of, several_tiers
+from .sweep_figures import (ANY, DEFINITIONS, TICKS_IN_MILLISECOND, TIMES, comparable, parts_of, pools_in,
+                            several_tiers)
 
 Bbox = tool_run.library("matplotlib.transforms").Bbox
 
@@ -18,6 +19,8 @@ PLACES = (  # of a label beside its mark: how far it is, in points, and which of
 )
 MOST_FAULTS = 10  # that the page lists
 WIDE = 24  # characters of values beside one another under a picture
+POOLS_NOTE = ("costs: the servers of what no pool serves. Busy is of its own servers; most waiting, the most requests "
+              "that had come and weren't begun.")
 FACTOR = 1.7  # by which an axis of times goes beyond the least and the greatest at least
 
 
@@ -130,7 +133,7 @@ def effect_picture(key, place, combinations):
     points = [[point_of(combination) for combination in comparable(combinations) if combination.values[place] == value]
               for value in values]
     figure, (upper, lower) = pyplot.subplots(2, 1, figsize=(pages.WIDTH, 4.8), layout="constrained")
-    labels = [settings_documents.shown(key, value) for value in values]
+    labels = [settings_documents.shown(key, value).replace("$", r"\$") for value in values]
     shares, times = ([[point[axis] for point in of] for of in points] for axis in (0, 1))
     draw_effect(upper, labels, shares, "turned away, %")
     upper.set_ylim(bottom=0)
@@ -157,7 +160,7 @@ def headings_of(options):
 
 def values_of(options, row):
     """The values of a row for people."""
-    return [value if value == ANY else settings_documents.shown(one.key, value)
+    return [value if value == ANY else html.escape(settings_documents.shown(one.key, value))
             for one, value in zip(options.grid, row.values)]
 
 
@@ -211,6 +214,21 @@ def table_of_tiers(options, rows, chosen):
     return "<h2>By tier</h2>\n" + pages.table(heading, cells, marks)
 
 
+def table_of_pools(rows, chosen):
+    """The table of the figures of each pool, where the settings have some; the worst of all captures."""
+    pools = pools_in(rows)
+    if not pools:
+        return ""
+    of_pools = [(row, pool, row.figures["pools"][pool]) for row in rows for pool in pools
+                if pool in row.figures["pools"]]
+    marks = [place for place, (row, *_) in enumerate(of_pools) if chosen and row.row == chosen.row]
+    cells = [[row.row, pages.breakable(pool), "-" if figures["busy_share"] is None else
+              "%.1f" % (100 * figures["busy_share"]), figures["most_waiting"], in_milliseconds(figures["longest_wait"])]
+             for row, pool, figures in of_pools]
+    heading = ["row", "pool", "busy, %", "most waiting", "longest wait, ms"]
+    return "<h2>By pool</h2>\n%s<p>%s</p>\n" % (pages.table(heading, cells, marks), POOLS_NOTE)
+
+
 def refused_rows(options, rows):
     """What the program refused, as HTML."""
     refused = [row for row in rows if "fault" in row.figures]
@@ -248,6 +266,7 @@ def page_of(options, combinations, rows, unbeaten, chosen, warnings):
         trade_picture(rows, unbeaten, chosen, options.limits),
         "<h2>Combinations that no other beats</h2>\n", table_of_rows(options, shown, chosen),
         "<dl>%s</dl>\n" % "".join("<dt>%s</dt><dd>%s</dd>\n" % pair for pair in DEFINITIONS),
-        table_of_tiers(options, shown, chosen), *effects(options, combinations), refused_rows(options, rows),
+        table_of_tiers(options, shown, chosen), table_of_pools(shown, chosen), *effects(options, combinations),
+        refused_rows(options, rows),
     ]
     return pages.html_page("Settings for " + ", ".join(options.captures), "".join(parts))

@@ -39,6 +39,8 @@ ticks at which messages came):
   the servers       what part of their time they worked, and how many requests were turned away while
                     one of them was idle. They are as many as --settings says (without it one), or as
                     the table shows at work at once where these are more
+  each pool         where the table tells pools: what part of their time its servers worked, the most
+                    of its requests that had come and weren't begun, and how long the longest waited
 
 and then the targets that were most turned away. They stand as they were sent; where that has escapes,
 what they say stands beside it. A step is the least of 1, 2, 10, 20, 100 milliseconds and so on, up to
@@ -66,15 +68,35 @@ TARGETS_ROOM = 64_000_000  # characters that these have together
 OTHERS = "(all others)"
 DEFAULT_TARGET = 100_000  # microseconds: policy.target where the settings have none
 MOST_SERVERS = 1_024
+POOLS = 17  # the servers of costs, and those of at most 16 pools
 LONGEST_SHOWN = 120  # characters of a target
 FIRST_LINE = re.compile(rb"haboob-(?:capture|traffic) [0-9]+ ([0-9]{1,10})\n")
 ESCAPE = re.compile("%([0-9A-Fa-f]{2})")
 STROKES = ((0, (1, 1)), (0, (5, 1, 1, 1)), (0, (8, 2)), (0, (3, 3)))  # of the targets of up to four tiers
 NAMES = ("offered", "admitted", "rejected", "bypassed")
+PICTURES_OF_POOLS = (  # title, column, and what its values are divided by
+    ("How busy each pool's servers were, percent of their time", "busy_share", 0.01),
+    ("Most requests of each pool that had come and weren't begun", "most_waiting", 1),
+    ("Longest wait for a server of each pool, milliseconds", "longest_wait", 1000),
+)
+
+
+class PoolStep:
+    """What a step has of one pool: for how long its servers worked, how many requests waited at the most, and how long
+    the longest."""
+
+    def __init__(self):
+        self.busy = self.waiting = self.wait = 0
+
+    def join(self, later):
+        """Takes what a later step has."""
+        self.busy += later.busy
+        self.waiting, self.wait = max(self.waiting, later.waiting), max(self.wait, later.wait)
 
 
 class Step:
-    """What a step has: counts of messages, response times in ticks, and what requests of each tier found."""
+    """What a step has: counts of messages, response times in ticks, what requests of each tier found, and what each
+    pool has."""
 
     def __init__(self):
         self.counts = collections.Counter()
@@ -85,7 +107,7 @@ class Step:
         self.rose = [0] * TIERS  # how often a control had raised the rate
         self.fell = [0] * TIERS
         self.inside = 0
-        self.busy = 0
+        self.pools = collections.defaultdict(PoolStep)
 
     def join(self, later):
         """Takes what a later step has."""
@@ -99,7 +121,8 @@ class Step:
             credits = [of.credits[tier] for of in (self, later) if of.credits[tier] is not None]
             self.credits[tier] = min(credits, default=None)
         self.inside = max(self.inside, later.inside)
-        self.busy += later.busy
+        for pool, of in later.pools.items():
+            self.pools[pool].join(of)
 
 
 class Gathering:
@@ -108,10 +131,12 @@ class Gathering:
     def __init__(self, window, width, servers, delays):
         self.window = window  # the first tick, and the one after the last
         self.delays = delays
-        self.servers = servers  # or as many as were at work at once, where these are more
+        # Of each pool; or as many as were at work at once, where these are more.
+        self.servers = collections.defaultdict(lambda: 1, enumerate(servers))
         self.steps = steps.Steps(Step, MOST_GIVEN_STEPS if width else MOST_STEPS, width)
         self.queue = decision_tables.Queue()
-        self.at_work = decision_tables.Queue()  # the services that began and haven't ended
+        self.at_work = collections.defaultdict(decision_tables.Queue)  # the services that began and haven't ended
+        self.pools = collections.defaultdict(decision_tables.PoolTally)  # where the table tells them
         self.rates = [None] * TIERS  # the last of each tier
         self.until = 0  # the last tick that a message came at
         self.asked = self.missing = 0  # admitted requests that looked for a file, and those of them that found none
@@ -121,11 +146,13 @@ class Gathering:
     def take(self, row):
         """Takes a row."""
         self.until = min(row.tick, self.window[1])
+        pool = row.pool or 0
         if row.decision == "admitted":
             complete = row.finish + self.delays.of(row.target)
             inside = self.queue.admit(row.tick, complete)
-            self.servers = max(self.servers, self.at_work.admit(row.start, row.finish))
-            self.note_service(row.start, row.finish)
+            waiting = 0 if row.pool is None else self.pools[pool].take(row)
+            self.servers[pool] = max(self.servers[pool], self.at_work[pool].admit(row.start, row.finish))
+            self.note_service(pool, row.start, row.finish)
         if not self.window[0] <= row.tick < self.window[1]:
             self.rates[row.tier] = self.rates[row.tier] if row.rate is None else row.rate
             return
@@ -137,6 +164,8 @@ class Gathering:
         if row.decision == "admitted":
             step.samples.append(complete - row.tick)
             step.inside = max(step.inside, inside)
+            of_pool = step.pools[pool]
+            of_pool.waiting, of_pool.wait = max(of_pool.waiting, waiting), max(of_pool.wait, row.start - row.tick)
             self.asked += row.status in decision_tables.OF_FILES
             self.missing += row.status == decision_tables.MISSING
 
@@ -164,8 +193,8 @@ class Gathering:
         self.room -= len(target)
         return target
 
-    def note_service(self, start, finish):
-        """Adds the time of a service to the steps that it lies in."""
+    def note_service(self, pool, start, finish):
+        """Adds the time of a service by a pool to the steps that it lies in."""
         start, finish = max(start, self.window[0]), min(finish, self.window[1])
         if start >= finish:
             return
@@ -173,7 +202,7 @@ class Gathering:
         self.steps.at(finish - 1)  # so that the width of a step doesn't change below
         while start < finish:
             until = min(finish, (start // self.steps.width + 1) * self.steps.width)
-            self.steps.at(start).busy += until - start
+            self.steps.at(start).pools[pool].busy += until - start
             start = until
 
 
@@ -196,7 +225,9 @@ def columns_of(gathered):
     samples = [sorted(step.samples) for step in all_of]
     for percent in PERCENTS:
         columns["p%d" % percent] = [decision_tables.ranked(of, percent) for of in samples]
-    columns["busy_share"] = [round(step.busy / (width * gathered.servers), 9) for step in all_of]
+    servers = sum(gathered.servers.values())
+    busy = [sum(of.busy for of in step.pools.values()) for step in all_of]
+    columns["busy_share"] = [round(time / (width * servers), 9) for time in busy]
     columns["most_inside"] = [step.inside for step in all_of]
     for tier in tiers_of(all_of):
         columns["rejected_%d" % tier] = [step.rejected[tier] for step in all_of]
@@ -204,6 +235,11 @@ def columns_of(gathered):
         columns["least_credit_%d" % tier] = [step.credits[tier] for step in all_of]
         columns["raised_%d" % tier] = [step.rose[tier] for step in all_of]
         columns["lowered_%d" % tier] = [step.fell[tier] for step in all_of]
+    for pool in sorted({pool for step in all_of for pool in step.pools}) if gathered.pools else ():
+        of_pool, room = [step.pools[pool] for step in all_of], width * gathered.servers[pool]
+        columns["pool_%d_busy_share" % pool] = [round(of.busy / room, 9) for of in of_pool]
+        columns["pool_%d_most_waiting" % pool] = [of.waiting for of in of_pool]
+        columns["pool_%d_longest_wait" % pool] = [of.wait for of in of_pool]
     return columns
 
 
@@ -215,6 +251,11 @@ def tiers_of(all_of):
 def tiers_in(columns):
     """The same, of columns."""
     return [tier for tier in range(TIERS) if "rate_%d" % tier in columns]
+
+
+def pools_in(columns):
+    """The pools of which columns tell."""
+    return [pool for pool in range(POOLS) if "pool_%d_busy_share" % pool in columns]
 
 
 def scaled(values, divisor):
@@ -346,6 +387,9 @@ class Pictures:
         yield self.picture(busy, [("busy", scaled(columns["busy_share"], 0.01))])
         yield self.picture("Turned away while a server was idle, " + unit,
                            [("rejected while idle", columns["rejected_while_idle"])])
+        for title, name, divisor in PICTURES_OF_POOLS if pools_in(columns) else ():
+            yield self.panels(title, [("pool %d" % pool, scaled(columns["pool_%d_%s" % (pool, name)], divisor))
+                                      for pool in pools_in(columns)])
 
 
 def sent(target):
@@ -401,8 +445,21 @@ def write_targets(file, targets):
         for target, away, asked, counts in rows_of_targets(targets)))
 
 
-def page_of(options, gathered, columns, start, aims):
-    """The page."""
+def table_of_pools(columns, servers, names):
+    """What each pool has over all steps, as HTML; nothing where the table tells no pools. Its name is that of the
+    settings, where these are known."""
+    cells = []
+    for pool in pools_in(columns):
+        shares, waiting, waits = (columns["pool_%d_%s" % (pool, name)] for _, name, _ in PICTURES_OF_POOLS)
+        name = shortened(names[pool]) if pool < len(names) else "-"
+        cells.append([pool, name, servers[pool], "%.1f" % (100 * sum(shares) / len(shares)), max(waiting),
+                      "%.3f" % (max(waits) / 1000)])
+    heading = ["pool", "in the settings", "servers", "busy, %", "most waiting", "longest wait, ms"]
+    return "<h2>Pools</h2>\n" + pages.table(heading, cells) if cells else ""
+
+
+def page_of(options, gathered, columns, start, aims, pools):
+    """The page; `pools` are the names of these, as far as the settings are known."""
     names = {name: name.replace("rejected", "turned away") for name in NAMES}
     names["rejected_while_idle"] = "turned away while a server was idle"
     counts = ", ".join("%d %s" % (sum(columns[name]), words) for name, words in names.items())
@@ -417,9 +474,9 @@ def page_of(options, gathered, columns, start, aims):
         html.escape(inputs), steps.width_in_words(width), counts, of_tiers)
     warning = decision_tables.strange_snapshot(gathered.asked, gathered.missing)
     body += "<p>%s.</p>\n" % html.escape(warning) if warning else ""
-    pictures = Pictures(columns, start, width, aims, gathered.servers, last_whole(gathered))
-    return pages.html_page(title_of(options), body + "\n".join(pictures.all()) + "\n" + table_of_targets(
-        gathered.targets, tiers))
+    pictures = Pictures(columns, start, width, aims, sum(gathered.servers.values()), last_whole(gathered))
+    return pages.html_page(title_of(options), body + "\n".join(pictures.all()) + "\n" + table_of_pools(
+        columns, gathered.servers, pools) + table_of_targets(gathered.targets, tiers))
 
 
 def title_of(options):
@@ -449,10 +506,11 @@ def aims_of(path, tables):
 
 
 def servers_of(path, tables):
-    """How many servers there are by the tables of a document of settings."""
+    """How many servers each pool has by the tables of a document of settings, those of no pool first."""
     servers = settings_documents.servers_of(tables)
-    if type(servers) is not int or not 0 < servers <= MOST_SERVERS:
-        raise Fault("%s: %s: not from 1 to %d servers" % (path, settings_documents.SERVERS, MOST_SERVERS))
+    for name, count in zip(settings_documents.names_of_pools(tables), servers):
+        if type(count) is not int or not 0 < count <= MOST_SERVERS:
+            raise Fault("%s: %s.servers: not from 1 to %d servers" % (path, name, MOST_SERVERS))
     return servers
 
 
@@ -521,7 +579,8 @@ def work(options):
     if warning:
         tool_run.say("%s: %s" % (TOOL, warning))
     columns = columns_of(gathered)
-    page = page_of(options, gathered, columns, start, aims)
+    pools = settings_documents.names_of_pools(tables) if options.settings else []
+    page = page_of(options, gathered, columns, start, aims, pools)
     written = [(options.output, lambda file: file.write(page)),
                (options.csv, lambda file: spreadsheets.write(file, columns, zip(*columns.values()))),
                (options.targets, lambda file: write_targets(file, gathered.targets))]
