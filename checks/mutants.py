@@ -19,8 +19,9 @@ else than a function's body gets a pass of its own, and so does what wasn't refu
   not refused      the crate is still proved
   doesn't compile  the compiler, or the reader of contracts, refuses the text
 
-A record is of one text of the crate and of the contracts below it: their sources without the bodies of functions. While
-it is of this text, what was refused isn't tried again. Exits with 1 where a mutant has one of the last three verdicts,
+A record is of one text: the crate's definitions, contracts and lemmas, and the contracts below it that it can see. What
+was tried of a mutant is of the functions that it changes, with their proofs; of one that changes something else, of the
+whole crate. Comments don't count. While both are of what is there, what was refused isn't tried again. Exits with 1 where a mutant has one of the last three verdicts,
 or a record isn't of what is there.
 """
 import argparse
@@ -45,6 +46,7 @@ MOST = 12  # in a pass, so that all processors have one, and little is lost wher
 REFUSED = ("values", "goal", "answer", "limit")
 UNKNOWN, ALIVE, BROKEN = "no verdict", "not refused", "doesn't compile"
 HEAD = re.compile(r"^( *)(?:pub(?:\(\w+\))? )?(?:const |unsafe )*fn (\w+)")
+PRIVATE = re.compile(r"^(?:const |unsafe )*fn | *pub\(\w+\) (?:const |unsafe )*fn ")  # of a module, or of its crate
 IMPL = re.compile(r"^(?:impl(?:<.*?>)?|>) ([^(]*?)(?: where .*)?(?: \{)?$")
 OPEN = re.compile(r"^note: (?:\./)?(src/\S+?):(\d+):\d+: it is not proved that (.*)")
 FALSE = "allow values at which this goal is false"
@@ -109,25 +111,45 @@ def bodies(text):
     return found
 
 
-def contracts(text):
-    """A source without the bodies of its functions."""
+def without_comments(path, text):
+    """A text without comments and empty lines."""
+    mark = "//" if path.endswith(".rt") else "--"
+    return "\n".join(line for line in text.split("\n") if line.strip() and not line.lstrip().startswith(mark))
+
+
+def contracts(path, text, private):
+    """A text without comments and, of a source, without the bodies of functions, or without all of a function that is
+    private to its crate."""
     lines = text.split("\n")
-    for _, _, first, begin, last in bodies(text):
-        if last > first:
+    for _, _, first, begin, last in bodies(text) if path.endswith(".rt") else ():
+        if PRIVATE.match(lines[first - 1]) and not private:
+            lines[first - 1 : last] = [""] * (last + 1 - first)
+        elif last > first:
             lines[begin : last - 1] = [""] * (last - 1 - begin)
-    return "\n".join(lines)
+    return without_comments(path, "\n".join(lines))
+
+
+def checksum(parts):
+    return hashlib.sha256("".join(parts).encode()).hexdigest()
 
 
 def text_sum(crate):
-    """The checksum of a crate's text and of the contracts that it stands on."""
+    """The checksum of what all functions of a crate are checked by: its definitions, contracts and lemmas, and the
+    contracts of the crates below it."""
     rows, stands = crates()
-    told = hashlib.sha256(rows[crate].encode())
+    parts = [rows[crate]]
     for path, text in files_of(os.path.join(TOP, "crates", crate)).items():
-        told.update(("%s\n%s\n" % (path, text)).encode())
+        if not is_of_function(path):
+            parts.append("%s\n%s\n" % (path, contracts(path, text, True)))
     for low in below(stands, crate):
         for path, text in files_of(os.path.join(TOP, "crates", low), ("src", "specs")).items():
-            told.update(("%s/%s\n%s\n" % (low, path, contracts(text) if path.endswith(".rt") else text)).encode())
-    return told.hexdigest()[:16]
+            parts.append("%s/%s\n%s\n" % (low, path, contracts(path, text, False)))
+    return checksum(parts)[:16]
+
+
+def is_of_function(path):
+    """Whether a file has the proofs of a function, which its folder is named after, and no lemmas."""
+    return os.path.basename(path) in ("Answers.antt", "Invariants.antt")
 
 
 def changes_of(mutant):
@@ -135,8 +157,19 @@ def changes_of(mutant):
     return [(it["file"], it["old"], it["new"]) for it in [mutant, *mutant.get("also", [])]]
 
 
-def own_sum(mutant):
-    return hashlib.sha256(json.dumps(changes_of(mutant)).encode()).hexdigest()[:8]
+def own_sum(mutant, sites):
+    """The checksum of a mutant and of the functions that it changes, with their proofs; of one that changes something
+    else, of the whole crate."""
+    parts, where = [json.dumps(changes_of(mutant))], sites.of(mutant)
+    if where is None:
+        parts += [path + "\n" + without_comments(path, text) for path, text in sites.texts.items()]
+    for path, first, last, _ in where or ():
+        lines = sites.texts[path].split("\n")[first - 1 : last]
+        name = HEAD.match(lines[0])[2]
+        parts.append(path + "\n" + without_comments(path, "\n".join(lines)))
+        parts += [proof + "\n" + without_comments(proof, text) for proof, text in sites.texts.items()
+                  if is_of_function(proof) and name in proof]
+    return checksum(parts)[:8]
 
 
 def applied(texts, mutant):
@@ -383,7 +416,7 @@ class Trial:
             for mutant in self.table["mutant"]:
                 mutant.pop("verdict", None)
         self.before = dict(self.table["record"])
-        self.sites = None
+        self.sites = Sites(crate, self.checker.texts, [])
 
     def one_pass(self, mutants):
         """Tries these mutants at once; those that don't compile are taken out until the rest does."""
@@ -416,7 +449,8 @@ class Trial:
 
     def tried(self, mutant):
         """Whether it is known that a mutant is refused."""
-        return mutant.get("tried") == own_sum(mutant) and mutant.get("verdict") in REFUSED
+        return (mutant.get("verdict") in REFUSED and applied(self.checker.texts, mutant) is not None
+                and mutant.get("tried") == own_sum(mutant, self.sites))
 
     def run(self):
         """Tries the mutants."""
@@ -442,7 +476,7 @@ class Trial:
         with self.writing:
             for mutant in self.table["mutant"]:
                 if mutant["name"] in verdicts:
-                    mutant.update(verdict=verdicts[mutant["name"]], tried=own_sum(mutant))
+                    mutant.update(verdict=verdicts[mutant["name"]], tried=own_sum(mutant, self.sites))
             self.table["record"] = {"text": self.text, "passes": self.before["passes"] + self.passes,
                                     "seconds": self.before["seconds"] + round(self.checker.seconds)}
             with open(os.path.join(TABLES, self.crate + ".toml"), "w", encoding="utf-8") as file:
@@ -452,13 +486,14 @@ class Trial:
 def amiss(crate):
     """What is wrong with a crate's table, beside the sources."""
     table, texts = load(crate), files_of(os.path.join(TOP, "crates", crate))
+    sites = Sites(crate, texts, [])
     names = collections.Counter(it["name"] for it in table["mutant"])
     yield from ("%s/%s: the name stands twice" % (crate, name) for name, count in names.items() if count > 1)
     for mutant in table["mutant"]:
         label = "%s/%s" % (crate, mutant["name"])
         if applied(texts, mutant) is None:
             yield "%s: an old text doesn't stand once" % label
-        elif mutant.get("tried") != own_sum(mutant) or "verdict" not in mutant:
+        elif mutant.get("tried") != own_sum(mutant, sites) or "verdict" not in mutant:
             yield "%s: not tried as it stands" % label
         elif mutant["verdict"] not in REFUSED:
             yield "%s: %s" % (label, mutant["verdict"])

@@ -15,6 +15,15 @@ MUTANTS = {
     "the_same_in_other_words": ("self.rate = rate;", "self.rate = { rate };", "not refused"),
     "a_word_that_is_none": ("let units = self.rate;", "let units = self.rates;", "doesn't compile"),
 }
+# Changes of the source: what stands there, what comes in its place, whether the record is then of another text, and which
+# mutants weren't tried on it.
+CHANGES = [
+    ("self.tick = to;", "self.tick = { to };", False, []),
+    ("        let units = self.credit;\n        units", "        let units = self.credit;\n        { units }", False,
+     ["credit_told_by_the_token"]),
+    ("    /// The credit in units.", "    // The credit.\n    // In units.", False, []),
+    ("ensures { result ≡ self.now.rate }", "ensures { self.now.rate ≡ result }", True, ["a_word_that_is_none"]),
+]
 
 
 def table_of(mutants):
@@ -51,6 +60,20 @@ def test_the_type_of_a_function(monkeypatch):
     assert [it[:2] for it in mutants.bodies(text)] == [("one", "Read for Pair<A, B>"), ("two", "")]
 
 
+def test_what_others_see(monkeypatch):
+    monkeypatch.syspath_prepend(os.path.join(TOP, "checks"))
+    import mutants
+    head = "// A comment.\nconst MOST: u64 = 8;\n\n"
+    hidden = "fn one(a: u64) -> u64\n    ensures { result ≡ a }\n{\n    a\n}\n\n"
+    seen = "pub fn two(a: u64) -> u64\n    ensures { result ≡ a }\n{\n    one(a)\n}\n"
+    shown = "const MOST: u64 = 8;\npub fn two(a: u64) -> u64\n    ensures { result ≡ a }\n{\n}"
+    assert mutants.contracts("a.rt", head + hidden + seen, False) == shown
+    assert "fn one(a: u64) -> u64\n    ensures { result ≡ a }\n{\n}" in mutants.contracts("a.rt", hidden + seen, True)
+    within = "impl A {\n    pub(crate) fn three(&self) -> u64 {\n        3\n    }\n}\n"
+    assert mutants.contracts("a.rt", within, False) == "impl A {\n}"
+    assert mutants.contracts("A.antt", "-- a comment\nfn : ℕ\nfn = 3\n", False) == "fn : ℕ\nfn = 3"
+
+
 def test_a_crate_that_is_not_there(copy):
     status, said = run(copy, "buckets")
     assert status == 2 and "no table of mutants for a crate buckets" in said
@@ -75,9 +98,13 @@ def test_verdicts_and_record(copy):
     assert "%s/credit_told_by_the_token" % CRATE not in said and "another text" not in said
 
     source = copy / "crates" / CRATE / "src" / "bucket.rt"
-    text = source.read_text()
-    source.write_text(text.replace("self.tick = to;", "self.tick = { to };"))
-    assert "the record is of another text: run checks/mutants.py %s" % CRATE in run(copy, "--check")[1]
+    text, stale = source.read_text(), "%s: the record is of another text: run checks/mutants.py %s" % (CRATE, CRATE)
+    for old, new, is_stale, untried in CHANGES:
+        assert text.count(old) == 1
+        source.write_text(text.replace(old, new))
+        said = run(copy, "--check")[1]
+        assert (stale in said, [name for name in MUTANTS if name + ": not tried as it stands" in said]) == (
+            is_stale, untried), (new, said)
     source.write_text(text + "// self.credit = credit;\n// let units = self.credit;\n")
     assert "%s/credit_told_by_the_token: an old text doesn't stand once" % CRATE in run(copy, "--check")[1]
     source.write_text(text)
