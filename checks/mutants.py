@@ -14,15 +14,15 @@ else than a function's body gets a pass of its own, and so does what wasn't refu
   goal             a goal can't be proved: what a function ensures, what a call requires, an invariant, a loop, an index
   answer           the written proof of such a goal doesn't fit it any more
   limit            the checker came to a limit of its own at such a goal
-  name             by name alone: a proof names what the mutant took away, which says little of a contract; the mutant is
-                   to be changed so that it keeps the name
+  name             by name alone: a proof names what the mutant took away, which says little of a contract; the mutant
+                   is to be changed so that it keeps the name
   not refused      the crate is still proved
   doesn't compile  the compiler, or the reader of contracts, refuses the text
 
 A record is of one text: the crate's definitions, contracts and lemmas, and the contracts below it that it can see. What
 was tried of a mutant is of the functions that it changes, with their proofs; of one that changes something else, of the
-whole crate. Comments don't count. While both are of what is there, what was refused isn't tried again. Exits with 1 where a mutant has one of the last three verdicts,
-or a record isn't of what is there.
+whole crate. Comments don't count. While both are of what is there, what was refused isn't tried again. Exits with 1
+where a mutant has one of the last three verdicts, or a record isn't of what is there.
 """
 import argparse
 import collections

@@ -15,8 +15,8 @@ MUTANTS = {
     "the_same_in_other_words": ("self.rate = rate;", "self.rate = { rate };", "not refused"),
     "a_word_that_is_none": ("let units = self.rate;", "let units = self.rates;", "doesn't compile"),
 }
-# Changes of the source: what stands there, what comes in its place, whether the record is then of another text, and which
-# mutants weren't tried on it.
+# Changes of the source: what stands there, what comes in its place, whether the record is then of another text, and
+# which mutants weren't tried on it.
 CHANGES = [
     ("self.tick = to;", "self.tick = { to };", False, []),
     ("        let units = self.credit;\n        units", "        let units = self.credit;\n        { units }", False,
@@ -55,8 +55,8 @@ def run(copy, *words):
 def test_the_type_of_a_function(monkeypatch):
     monkeypatch.syspath_prepend(os.path.join(TOP, "checks"))
     import mutants
-    text = "impl<\n    A,\n    B: Copy,\n> Read for Pair<A, B>\nwhere\n    A: Copy,\n{\n    fn one(&self) -> u8 {\n        1\n" \
-           "    }\n}\n\nfn two<\n    A,\n>(\n    a: A,\n) {\n}\n"
+    text = "impl<\n    A,\n    B: Copy,\n> Read for Pair<A, B>\nwhere\n    A: Copy,\n{\n" \
+           "    fn one(&self) -> u8 {\n        1\n    }\n}\n\nfn two<\n    A,\n>(\n    a: A,\n) {\n}\n"
     assert [it[:2] for it in mutants.bodies(text)] == [("one", "Read for Pair<A, B>"), ("two", "")]
 
 
