@@ -3,7 +3,7 @@
 
     checks/pages.py
 
-Looked at are names with `::`, with an underscore or with a capital inside (`serve_next`, `Cutter::feed`, `SeatStates`),
+Looked at are names with `::`, with an underscore or with a capital inside (`serve_next`, `Cutter::feed`, `QueueStates`),
 and files (with a slash, or an ending of a source; NAME and CRATE stand for any). Those of other projects stand in
 OTHERS. Exits with 1 where a page is empty, names what no source has, or OTHERS has what no page names.
 """

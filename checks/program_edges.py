@@ -448,7 +448,7 @@ def processor_seconds(program, folder, capture):
 
 
 def check_high_numbers(report, program):
-    """Seats of connections that sent nothing cost a batch nothing: by turns, with low and with the highest numbers."""
+    """Queues of connections that sent nothing cost a batch nothing: by turns, with low and with the highest numbers."""
     took = {"low": [], "high": []}
     with tempfile.TemporaryDirectory() as folder:
         put(folder, {"snapshot": SNAPSHOT, "singly": SINGLY, "low": capture_from(0),

@@ -59,7 +59,7 @@ REASONS = {
         "more slots than a number counts; the index stays empty, and no call answers so",
     ("replay/src/parts.rt", "of_unrun", "ReplayFault::Memory"):
         "a floor has no run where memory or threads were refused; a step stops it where it was refused memory",
-    ("runs/src/running.rt", "told", "Err(Fault::Memory)"):
+    ("runs/src/running.rt", "reported", "Err(Fault::Memory)"):
         "a buffer whose device didn't fail refuses bytes where there is no memory for them alone",
     ("runs/src/snapshotting.rt", "unwritten", "_ => Fault::Memory,"):
         "the writer has no other fault left, by its contract",
@@ -76,7 +76,7 @@ REASONS = {
         "items",
         "fewer chunks than were noted: no floor ends as a run without all its items"],
     ("stage_graph/src/helpers/sections.rt", "end", "return Err(Unrun::Memory);"): [
-        "no floor on the desk: one thread lays one and takes it back",
+        "no floor in the scheduler: one thread lays one and takes it back",
         "another floor than was laid: the same",
         "a worker that may not leave: the calling thread takes a floor back that has ended"],
     ("stage_graph/src/notes.rt", "note", "return Err(AllocError);"): [

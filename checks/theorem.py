@@ -549,7 +549,7 @@ it does there, so that parts and their comments stay whole.
 **Values.** A clause sees a value of Rust as a number, a list or a record. Where a type has an `impl Model`, it sees \
 what `view` makes of the fields, a `Value`: so `settings.now` is a `Choice`. `.old` and `.new` are the views before \
 and after the call. `F.files` is the list of files that the type `F` stands for. What Rust calls `Slip<F>` and \
-`Given<F>`, the definitions call `Slip X` and `Given X`.
+`ResponseKind<F>`, the definitions call `Slip X` and `ResponseKind X`.
 
 **Names.** A name means the definition in its own file where there is one. A comment that begins with `here` says what \
 a name means that means something else in another file, or has another name there.

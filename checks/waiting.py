@@ -25,9 +25,9 @@ from lib.usage import parser_of
 
 CRATE = os.path.join(TOP, "crates", "stage_graph")
 MODEL = os.path.join(CRATE, "model", "helpers.pml")
-SOURCES = ["run.rt", "helpers.rt", "helpers/desk.rt", "helpers/sections.rt", "floor/causes.rt", "floor/events.rt",
+SOURCES = ["run.rt", "helpers.rt", "helpers/scheduler.rt", "helpers/sections.rt", "floor/causes.rt", "floor/events.rt",
            "floor/held.rt"]
-MIRRORED = "8425018c54149cb0"
+MIRRORED = "28582b4c4801cd15"
 FLOORS = [
     "S=1 W0=2 C0=1 N=3 T=2 FLOORS=2 SPUR=1 REFUSE ERROR",
     "S=2 W0=1 W1=1 C0=1 C1=1 N=3 T=1 FLOORS=2 REFUSE ERROR",

@@ -5,12 +5,12 @@ use Rattle.std.proofs.lemmas.List.Sums.{sum_by-cons}
 use Rattle.std.specs.Prelude.{map, IfOk, MatchResult, Result, Ok, Err}
 use Rattle.std.specs.List.{AllZip}
 use Rattle.std.specs.declared.alloc.AllocError.{AllocError}
-use Rattle.arrivals.specs.SeatStates.{IsCutOf, SeatState, CanRead, MayTake, TakesNext, size}
+use Rattle.arrivals.specs.QueueStates.{IsCutOf, QueueState, CanRead, MayTake, TakesNext, size}
 use Rattle.http_requests.specs.Cutting.{max_text_bytes}
-use Rattle.arrivals.specs.declared.seat.Waiting.{Waiting}
-use Rattle.arrivals.specs.declared.seat.Waiting.TheVariants.{Piece as Comes, End as Ends}
+use Rattle.arrivals.specs.declared.connection_queue.Waiting.{Waiting}
+use Rattle.arrivals.specs.declared.connection_queue.Waiting.TheVariants.{Piece as Comes, End as Ends}
 use Rattle.http_requests.specs.declared.messages.Message.{Message}
-use Rattle.arrivals.specs.Connections.{HasRead, HasRoom}
+use Rattle.arrivals.specs.Connections.{HasRead, HasCapacity}
 use Rattle.arrivals.specs.Batches.{ReadsOn}
 use Rattle.arrivals.specs.declared.connections.Connection.{Connection}
 use Rattle.arrivals.specs.declared.connections.Connection.TheVariants.{Silent, Open, Closed}
@@ -35,7 +35,7 @@ reads_push before mid after waiting Ends mss new h t = rw (t.0, t.1) (ends befor
     ends before (Comes p ∷ waiting) [] h = absurd h
     ends before (Comes p ∷ waiting) (x ∷ mss) h = (h.0, h.1, ends h.0 waiting mss h.2)
 
-pub room_of : (k : Connection) (text : List ℕ) (ms : List Message) (n : ℕ) → HasRead k text ms → length text + n ≤ max_text_bytes → HasRoom k n
+pub room_of : (k : Connection) (text : List ℕ) (ms : List Message) (n : ℕ) → HasRead k text ms → length text + n ≤ max_text_bytes → HasCapacity k n
 room_of Silent text ms n h le = omega (arith, le)
 room_of (Open cutter) text ms n h le = let e = h.read in omega (arith, e, le)
 room_of Closed text ms n h le = tt
@@ -45,24 +45,24 @@ pub can_now : {k : Connection} {waiting rest : List Waiting} {next : Waiting} �
 can_now {k} {waiting} {rest} {next} is can = subst (CanRead k) is (can (rw is (omega arith)))
 
 pub can_take : (k : Connection) (next : Waiting) (waiting : List Waiting) → CanRead k (next ∷ waiting) → MayTake k next
-can_take k (Comes piece) waiting c = let le = c.room in let sum = sum_by-cons size (Comes piece) waiting in room_of k c.text c.ms (length piece) c.has (omega (arith, le, sum))
+can_take k (Comes piece) waiting c = let le = c.capacity in let sum = sum_by-cons size (Comes piece) waiting in room_of k c.text c.ms (length piece) c.has (omega (arith, le, sum))
 can_take k Ends waiting c = tt
 
 pub can_read_more : (k after : Connection) (next : Waiting) (waiting : List Waiting) (old new : List (List Message)) → CanRead k (next ∷ waiting) → TakesNext k next old new after → CanRead after waiting
 can_read_more k after (Comes piece) waiting old new c t =
-    let le = c.room in
+    let le = c.capacity in
     let len = length-append c.text piece in
     let sum = sum_by-cons size (Comes piece) waiting in
     record {
       text = c.text ++ piece;
       ms = c.ms ++ t.0;
       has = (t.2 c.text c.ms c.has).has;
-      room = omega (arith, le, len, sum);
+      capacity = omega (arith, le, len, sum);
     }
 can_read_more k after Ends waiting old new c t =
-    let le = c.room in
+    let le = c.capacity in
     let sum = sum_by-cons size Ends waiting in
-    record { text = []; ms = []; has = rw t.1 (refl, refl); room = omega (arith, le, sum) }
+    record { text = []; ms = []; has = rw t.1 (refl, refl); capacity = omega (arith, le, sum) }
 
 -- each task gave what it was cut into
 pub all_cut : {A : Type 0} (R : A → A → Type 0) (tasks : List A) (given : List (Result A AllocError)) (cuts : List A) → AllZip (λ t r. IfOk r (R t)) tasks given → given ≡ map Ok cuts → AllZip R tasks cuts
@@ -82,7 +82,7 @@ match_ok (Ok v) P Q R f h = f v h
 match_ok (Err e) P Q R f h = tt
 
 -- a connection without a piece stays as it is
-pub nothing_cut : (p : SeatState) → p.waiting ≡ [] → p.lists ≡ [] → IsCutOf p p
+pub nothing_cut : (p : QueueState) → p.waiting ≡ [] → p.lists ≡ [] → IsCutOf p p
 nothing_cut p none fresh = record { reads = rw (none, fresh) refl; done = none }
 
 pub no_items : {A : Type 0} (xs : List A) → length xs ≡ 0 → xs ≡ []

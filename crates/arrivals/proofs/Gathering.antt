@@ -12,9 +12,9 @@ use Rattle.std.proofs.lemmas.List.Sums.{sum_by-append, sum_by-cons}
 use Rattle.captures.specs.Reference.{IsRecord, max_piece_bytes}
 use Rattle.captures.specs.Captures.{size_of, sizes_of}
 use Rattle.arrivals.specs.Gathering.{with_more, Adds, AddsOne, as_piece, piece_count}
-use Rattle.arrivals.specs.SeatStates.{SeatState, seat_at, with_next}
-use Rattle.arrivals.specs.declared.seat.Waiting.{Waiting}
-use Rattle.arrivals.specs.declared.seat.Waiting.TheVariants.{Piece as Comes, End as Ends}
+use Rattle.arrivals.specs.QueueStates.{QueueState, queued_at, with_next}
+use Rattle.arrivals.specs.declared.connection_queue.Waiting.{Waiting}
+use Rattle.arrivals.specs.declared.connection_queue.Waiting.TheVariants.{Piece as Comes, End as Ends}
 use Rattle.arrivals.proofs.Arriving.{if_true, if_false}
 
 -- what the reader's answer says
@@ -22,11 +22,11 @@ pub gave_some : (v : Version) (text now : Option (List ℕ)) (start : ℕ) (reco
     → Gave v text start records (Ok x) p now → ReaderAfter v text start (records ++ r ∷ []) p now
 gave_some v text now start records p x r is h = subst (λ (o : Option Record). Gave v text start records (Ok o) p now) is h
 
-abbrev holding : SeatState → List Waiting → SeatState
+abbrev holding : QueueState → List Waiting → QueueState
 holding p waiting = record { connection = p.connection; waiting = waiting; lists = p.lists }
 
-pub adds_none : (places : List SeatState) → Adds [] places places
-adds_none places = λ c. sym (ap (holding (seat_at places c)) (append-nil (seat_at places c).waiting))
+pub adds_none : (places : List QueueState) → Adds [] places places
+adds_none places = λ c. sym (ap (holding (queued_at places c)) (append-nil (queued_at places c).waiting))
 
 sent_one : (b : Bool) (w : Waiting) (longer shorter more : List Waiting) → longer ≡ shorter ++ more → (if b then w ∷ longer else longer) ≡ (if b then w ∷ shorter else shorter) ++ more
 sent_one true w longer shorter more e = ap (λ l. w ∷ l) e
@@ -38,7 +38,7 @@ sent_push c (Piece tick conn bytes ∷ rs) r = sent_one (conn == c) (Comes bytes
 sent_push c (End tick conn ∷ rs) r = sent_one (conn == c) Ends (sent_to c (rs ++ r ∷ [])) (sent_to c rs) (sent_to c (r ∷ [])) (sent_push c rs r)
 sent_push c (Tier conn tier ∷ rs) r = sent_push c rs r
 
-pub adds_tier : (conn tier : ℕ) (r : Record) (places : List SeatState) → r ≡ Tier conn tier → AddsOne r places places
+pub adds_tier : (conn tier : ℕ) (r : Record) (places : List QueueState) → r ≡ Tier conn tier → AddsOne r places places
 adds_tier conn tier r places is = rw is (adds_none places)
 
 pub origins_push : (records rs : List Record) (r : Record) → origins_after records (rs ++ r ∷ []) ≡ origins_after records rs ++ origins_after (records ++ rs) (r ∷ [])
@@ -53,25 +53,25 @@ origins_push records (End tick conn ∷ rs) r =
 origins_push records (Tier conn tier ∷ rs) r =
     origins_push (records ++ Tier conn tier ∷ []) rs r ∙ ap (λ w. origins_after (records ++ Tier conn tier ∷ []) rs ++ origins_after w (r ∷ [])) (append_assoc records (Tier conn tier ∷ []) rs)
 
-pub adds_more : (rs : List Record) (r : Record) (old mid new : List SeatState) → Adds rs old mid → AddsOne r mid new → Adds (rs ++ r ∷ []) old new
+pub adds_more : (rs : List Record) (r : Record) (old mid new : List QueueState) → Adds rs old mid → AddsOne r mid new → Adds (rs ++ r ∷ []) old new
 adds_more rs r old mid new first second = λ c.
     second c ∙ ap (λ p. with_more p (sent_to c (r ∷ []))) (first c)
-    ∙ ap (holding (seat_at old c)) (append_assoc (seat_at old c).waiting (sent_to c rs) (sent_to c (r ∷ [])) ∙ ap (λ xs. (seat_at old c).waiting ++ xs) (sym (sent_push c rs r)))
+    ∙ ap (holding (queued_at old c)) (append_assoc (queued_at old c).waiting (sent_to c rs) (sent_to c (r ∷ [])) ∙ ap (λ xs. (queued_at old c).waiting ++ xs) (sym (sent_push c rs r)))
 
 -- something came on a number
-adds_next : (conn n : ℕ) (next : Waiting) (r : Record) (old new : List SeatState) → ((c : ℕ) → sent_to c (r ∷ []) ≡ (if conn == c then next ∷ [] else [])) → n ≡ conn
-    → seat_at new n ≡ with_next next (seat_at old n) → ((c : ℕ) → c ≢ n → seat_at new c ≡ seat_at old c) → AddsOne r old new
+adds_next : (conn n : ℕ) (next : Waiting) (r : Record) (old new : List QueueState) → ((c : ℕ) → sent_to c (r ∷ []) ≡ (if conn == c then next ∷ [] else [])) → n ≡ conn
+    → queued_at new n ≡ with_next next (queued_at old n) → ((c : ℕ) → c ≢ n → queued_at new c ≡ queued_at old c) → AddsOne r old new
 adds_next conn n next r old new sent named own others = λ c. rw (sent c) (elim (eqb_tells conn c) [
   | inl e ↦ rw (if_true (conn == c) (next ∷ []) [] e.0, ← e.1) (rw named at own)
-  | inr e ↦ rw (if_false (conn == c) (next ∷ []) [] e.0, append-nil (seat_at old c).waiting) (others c (λ s. e.1 (sym (s ∙ named))))
+  | inr e ↦ rw (if_false (conn == c) (next ∷ []) [] e.0, append-nil (queued_at old c).waiting) (others c (λ s. e.1 (sym (s ∙ named))))
 ])
 
-pub adds_piece : (tick conn n : ℕ) (bytes piece : List ℕ) (r : Record) (old new : List SeatState) → r ≡ Piece tick conn bytes → n ≡ conn → piece ≡ bytes
-    → seat_at new n ≡ with_next (Comes piece) (seat_at old n) → ((c : ℕ) → c ≢ n → seat_at new c ≡ seat_at old c) → AddsOne r old new
+pub adds_piece : (tick conn n : ℕ) (bytes piece : List ℕ) (r : Record) (old new : List QueueState) → r ≡ Piece tick conn bytes → n ≡ conn → piece ≡ bytes
+    → queued_at new n ≡ with_next (Comes piece) (queued_at old n) → ((c : ℕ) → c ≢ n → queued_at new c ≡ queued_at old c) → AddsOne r old new
 adds_piece tick conn n bytes piece r old new is named same own others = adds_next conn n (Comes bytes) r old new (λ c. rw is refl) named (rw same at own) others
 
-pub adds_end : (tick conn n : ℕ) (r : Record) (old new : List SeatState) → r ≡ End tick conn → n ≡ conn
-    → seat_at new n ≡ with_next Ends (seat_at old n) → ((c : ℕ) → c ≢ n → seat_at new c ≡ seat_at old c) → AddsOne r old new
+pub adds_end : (tick conn n : ℕ) (r : Record) (old new : List QueueState) → r ≡ End tick conn → n ≡ conn
+    → queued_at new n ≡ with_next Ends (queued_at old n) → ((c : ℕ) → c ≢ n → queued_at new c ≡ queued_at old c) → AddsOne r old new
 adds_end tick conn n r old new is named own others = adds_next conn n Ends r old new (λ c. rw is refl) named own others
 
 -- one more record: how many pieces there are then, and how many bytes of them

@@ -5,7 +5,7 @@ pub mod ArrivalLaws
 pub mod ArrivalsExist
 pub mod CutBatches
 pub mod Merges
-pub mod PickedSeats
+pub mod PickedQueues
 pub mod Laid
 pub mod Tiered
 pub mod Gathering

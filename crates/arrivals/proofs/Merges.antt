@@ -6,7 +6,7 @@ use Rattle.std.proofs.lemmas.Bool.Decides.{eqb_tells}
 use Rattle.http_requests.specs.declared.messages.Message.{Message}
 use Rattle.arrivals.proofs.Arriving.{if_true, if_false}
 use Rattle.arrivals.specs.Batches.{lists_to}
-use Rattle.arrivals.specs.SeatStates.{SeatState, seat_at, with_lists, count_to}
+use Rattle.arrivals.specs.QueueStates.{QueueState, queued_at, with_lists, count_to}
 use Rattle.arrivals.specs.declared.incoming.Origin.{Origin}
 use Rattle.arrivals.specs.declared.incoming.PieceMessages.{PieceMessages}
 
@@ -50,7 +50,7 @@ list_other c o ms apart = elim (eqb_tells o.conn c) [
 ]
 
 -- a place with lists is kept
-pub is_kept : (places : List SeatState) (c n : ℕ) → length (seat_at places c).lists ≡ n + 1 → c < length places
+pub is_kept : (places : List QueueState) (c n : ℕ) → length (queued_at places c).lists ≡ n + 1 → c < length places
 is_kept [] c n e = absurd (let z : ⊥ = omega (arith, e) in z)
 is_kept (p ∷ places) zero n e = omega arith
 is_kept (p ∷ places) (suc c) n e = let lt = is_kept places c n e in omega (arith, lt)
@@ -63,15 +63,15 @@ some_list os k d conn n lt is e =
     omega (arith, many)
 
 -- the state of a merge after k pieces
-pub record Merged (os : List Origin) (k : ℕ) (start now : List SeatState) (found : List (List Message)) : Type 0 where
-  pub left : (c : ℕ) → length (seat_at now c).lists ≡ count_to c (drop k os)
-  pub split : (c : ℕ) → (seat_at start c).lists ≡ lists_to c (take k os) found ++ (seat_at now c).lists
+pub record Merged (os : List Origin) (k : ℕ) (start now : List QueueState) (found : List (List Message)) : Type 0 where
+  pub left : (c : ℕ) → length (queued_at now c).lists ≡ count_to c (drop k os)
+  pub split : (c : ℕ) → (queued_at start c).lists ≡ lists_to c (take k os) found ++ (queued_at now c).lists
   pub count : length found ≡ k
-  pub same : (c : ℕ) → with_lists [] (seat_at now c) ≡ with_lists [] (seat_at start c)
+  pub same : (c : ℕ) → with_lists [] (queued_at now c) ≡ with_lists [] (queued_at start c)
 
-pub merged_more : (os : List Origin) (k : ℕ) (d : Origin) (conn : ℕ) (start now next : List SeatState) (found : List (List Message)) (ms : List Message) → k < length os → conn ≡ (get_or os k d).conn
-    → seat_at now conn ≡ with_lists (ms ∷ (seat_at next conn).lists) (seat_at next conn)
-    → ((c : ℕ) → c ≢ conn → seat_at next c ≡ seat_at now c)
+pub merged_more : (os : List Origin) (k : ℕ) (d : Origin) (conn : ℕ) (start now next : List QueueState) (found : List (List Message)) (ms : List Message) → k < length os → conn ≡ (get_or os k d).conn
+    → queued_at now conn ≡ with_lists (ms ∷ (queued_at next conn).lists) (queued_at next conn)
+    → ((c : ℕ) → c ≢ conn → queued_at next c ≡ queued_at now c)
     → Merged os k start now found → Merged os (k + 1) start next (found ++ ms ∷ [])
 merged_more os k d conn start now next found ms lt is own others m = record {
   left = left;
@@ -95,7 +95,7 @@ merged_more os k d conn start now next found ms lt is own others m = record {
     pushed : (c : ℕ) → lists_to c (take (k + 1) os) (found ++ ms ∷ []) ≡ lists_to c (take k os) found ++ lists_to c (o ∷ []) (ms ∷ [])
     pushed c = ap (λ l. lists_to c l (found ++ ms ∷ [])) front ∙ lists_push c (take k os) o found ms counts
 
-    left : (c : ℕ) → length (seat_at next c).lists ≡ count_to c (drop (k + 1) os)
+    left : (c : ℕ) → length (queued_at next c).lists ≡ count_to c (drop (k + 1) os)
     left c = elim (eqb_tells c conn) [
       | inl e ↦
           (let before = rw (e.1, own, is, rest, count_own o (drop (k + 1) os)) at (m.left c) in
@@ -103,29 +103,29 @@ merged_more os k d conn start now next found ms lt is own others m = record {
       | inr e ↦ rw (others c e.1) (m.left c ∙ ap (count_to c) rest ∙ count_other c o (drop (k + 1) os) (λ same. e.1 (same ∙ sym is)))
     ]
 
-    split : (c : ℕ) → (seat_at start c).lists ≡ lists_to c (take (k + 1) os) (found ++ ms ∷ []) ++ (seat_at next c).lists
+    split : (c : ℕ) → (queued_at start c).lists ≡ lists_to c (take (k + 1) os) (found ++ ms ∷ []) ++ (queued_at next c).lists
     split c = elim (eqb_tells c conn) [
       | inl e ↦
-          (let lists : (seat_at now c).lists ≡ ms ∷ (seat_at next c).lists = rw e.1 (ap (λ (p : SeatState). p.lists) own) in
+          (let lists : (queued_at now c).lists ≡ ms ∷ (queued_at next c).lists = rw e.1 (ap (λ (p : QueueState). p.lists) own) in
           let mine : lists_to c (o ∷ []) (ms ∷ []) ≡ ms ∷ [] = rw (e.1, is) (list_own o ms) in
-          m.split c ∙ ap (λ l. lists_to c (take k os) found ++ l) lists ∙ sym (append_assoc (lists_to c (take k os) found) (ms ∷ []) (seat_at next c).lists)
-          ∙ ap (λ l. l ++ (seat_at next c).lists) (ap (λ l. lists_to c (take k os) found ++ l) (sym mine) ∙ sym (pushed c)))
+          m.split c ∙ ap (λ l. lists_to c (take k os) found ++ l) lists ∙ sym (append_assoc (lists_to c (take k os) found) (ms ∷ []) (queued_at next c).lists)
+          ∙ ap (λ l. l ++ (queued_at next c).lists) (ap (λ l. lists_to c (take k os) found ++ l) (sym mine) ∙ sym (pushed c)))
       | inr e ↦
           (let none : lists_to c (o ∷ []) (ms ∷ []) ≡ [] = list_other c o ms (λ same. e.1 (same ∙ sym is)) in
           let kept : lists_to c (take (k + 1) os) (found ++ ms ∷ []) ≡ lists_to c (take k os) found = pushed c ∙ ap (λ l. lists_to c (take k os) found ++ l) none ∙ append-nil (lists_to c (take k os) found) in
-          m.split c ∙ ap (λ (p : SeatState). lists_to c (take k os) found ++ p.lists) (sym (others c e.1)) ∙ ap (λ l. l ++ (seat_at next c).lists) (sym kept))
+          m.split c ∙ ap (λ (p : QueueState). lists_to c (take k os) found ++ p.lists) (sym (others c e.1)) ∙ ap (λ l. l ++ (queued_at next c).lists) (sym kept))
     ]
 
-    same : (c : ℕ) → with_lists [] (seat_at next c) ≡ with_lists [] (seat_at start c)
+    same : (c : ℕ) → with_lists [] (queued_at next c) ≡ with_lists [] (queued_at start c)
     same c = elim (eqb_tells c conn) [
-      | inl e ↦ (let kept : with_lists [] (seat_at next c) ≡ with_lists [] (seat_at now c) = rw e.1 (sym (ap (with_lists []) own)) in kept ∙ m.same c)
+      | inl e ↦ (let kept : with_lists [] (queued_at next c) ≡ with_lists [] (queued_at now c) = rw e.1 (sym (ap (with_lists []) own)) in kept ∙ m.same c)
       | inr e ↦ ap (with_lists []) (others c e.1) ∙ m.same c
     ]
 
 -- one more piece's messages, with where they came from
-pub found_more : (os : List Origin) (k : ℕ) (d : Origin) (conn : ℕ) (start now next : List SeatState) (found : List PieceMessages) (ms : List Message) → k < length os → conn ≡ (get_or os k d).conn
-    → seat_at now conn ≡ with_lists (ms ∷ (seat_at next conn).lists) (seat_at next conn)
-    → ((c : ℕ) → c ≢ conn → seat_at next c ≡ seat_at now c)
+pub found_more : (os : List Origin) (k : ℕ) (d : Origin) (conn : ℕ) (start now next : List QueueState) (found : List PieceMessages) (ms : List Message) → k < length os → conn ≡ (get_or os k d).conn
+    → queued_at now conn ≡ with_lists (ms ∷ (queued_at next conn).lists) (queued_at next conn)
+    → ((c : ℕ) → c ≢ conn → queued_at next c ≡ queued_at now c)
     → Merged os k start now (map (λ p. p.messages) found) × (map (λ p. p.origin) found ≡ take k os)
     → Merged os (k + 1) start next (map (λ p. p.messages) (found ++ record { origin = get_or os k d; messages = ms } ∷ []))
     × (map (λ p. p.origin) (found ++ record { origin = get_or os k d; messages = ms } ∷ []) ≡ take (k + 1) os)

@@ -15,7 +15,7 @@ use Rattle.arrivals.specs.Batches.{Reads, ReadsOn, sent_to, origin_now, origins_
 use Rattle.arrivals.specs.declared.incoming.Origin.{Origin}
 use Rattle.arrivals.specs.declared.connections.Connection.{Connection}
 use Rattle.arrivals.specs.declared.connections.Connection.TheVariants.{Silent}
-use Rattle.arrivals.specs.declared.seat.Waiting.TheVariants.{Piece as Comes, End as Ends}
+use Rattle.arrivals.specs.declared.connection_queue.Waiting.TheVariants.{Piece as Comes, End as Ends}
 use Rattle.arrivals.proofs.Arriving.{from_piece, text_more, own_bytes, other_bytes, messages_more, own_messages, other_messages, has_messages, arrives_none, arrives_without, each_piece, arrive_with_piece, no_messages, no_text, if_true, if_false}
 
 -- ---- numbers

@@ -6,7 +6,7 @@ use Rattle.std.proofs.lemmas.List.Elements.{All-head, All-tail, All-nil, All-pus
 use Rattle.captures.specs.declared.record.Record.{Record}
 use Rattle.captures.specs.declared.record.Record.TheVariants.{Piece, End, Tier}
 use Rattle.captures.specs.declared.version.Version.{Version}
-use Rattle.captures.specs.Reference.{IsRecord, connection_of, connection_now, last_of, tier_given, tier_of, used_once}
+use Rattle.captures.specs.Reference.{IsRecord, connection_of, connection_now, last_of, tier_set, tier_of, used_once}
 use Rattle.captures.proofs.Lives.{is_low, ends_of, apart, same_connection, next_connection, once_push, unnamed}
 use Rattle.captures.proofs.Tiers.{tier_of_piece, tier_of_end, tier_of_tier}
 use Rattle.arrivals.specs.Connections.{HaveNumbers, IsNumber, tier_now, AreTiers, tier_at, with_tier}
@@ -24,7 +24,7 @@ same_test c conn records lc low = elim (eqb_tells conn c) [
 ]
 
 -- a connection that no record names has no tier
-no_tier : (c : ℕ) (records : List Record) → All (λ r. connection_of r ≢ c) records → flat_map (tier_given c) records ≡ []
+no_tier : (c : ℕ) (records : List Record) → All (λ r. connection_of r ≢ c) records → flat_map (tier_set c) records ≡ []
 no_tier c [] all = refl
 no_tier c (Piece tick conn bytes ∷ records) all = no_tier c records (All-tail (λ r. connection_of r ≢ c) (Piece tick conn bytes) records all)
 no_tier c (End tick conn ∷ records) all = no_tier c records (All-tail (λ r. connection_of r ≢ c) (End tick conn) records all)

@@ -12,8 +12,8 @@ use Rattle.arrivals.specs.declared.incoming.PieceMessages.{PieceMessages}
 use Rattle.arrivals.specs.Connections.{HasRead, ReadMore, HaveReadSo, HaveNumbers, arrivals_with, tier_now}
 use Rattle.arrivals.specs.declared.connections.Connection.{Connection}
 use Rattle.arrivals.specs.declared.connections.Connection.TheVariants.{Silent}
-use Rattle.arrivals.specs.declared.seat.Waiting.{Waiting}
-use Rattle.arrivals.specs.declared.seat.Waiting.TheVariants.{Piece as Comes, End as Ends}
+use Rattle.arrivals.specs.declared.connection_queue.Waiting.{Waiting}
+use Rattle.arrivals.specs.declared.connection_queue.Waiting.TheVariants.{Piece as Comes, End as Ends}
 
 -- the connection reads a piece, these messages end in it, and it stands so after it
 abbrev pub Reads : Connection → List ℕ → List Message → Connection → Type 0

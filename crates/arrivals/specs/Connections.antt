@@ -19,10 +19,10 @@ HasRead (Open cutter) text ms = CutterAfter text ms cutter
 HasRead Closed text ms = (more : List ℕ) → MessagesOf (text ++ more) ms
 
 -- the connection may read n bytes more
-abbrev pub HasRoom : Connection → ℕ → Type 0
-HasRoom Silent n = n ≤ max_text_bytes
-HasRoom (Open cutter) n = cutter.read + n ≤ max_text_bytes
-HasRoom Closed n = Unit {0}
+abbrev pub HasCapacity : Connection → ℕ → Type 0
+HasCapacity Silent n = n ≤ max_text_bytes
+HasCapacity (Open cutter) n = cutter.read + n ≤ max_text_bytes
+HasCapacity Closed n = Unit {0}
 
 -- some message closes the connection
 abbrev pub some_closes : List Message → Bool

@@ -1,4 +1,4 @@
--- How a batch of records is read: its pieces wait at the seats of their numbers.
+-- How a batch of records is read: its pieces wait at the queues of their numbers.
 use Rattle.std.specs.Prelude.{◌≡◌, ℕ, ◌+◌, ◌<◌, ◌≤◌, ◌⊎◌, List, [], ◌∷◌, ◌++◌, Option, None, Ok, Err, sum_by}
 use Rattle.captures.specs.declared.record.Record.{Record}
 use Rattle.captures.specs.declared.record.Record.TheVariants.{Piece, End as Ends, Tier}
@@ -9,28 +9,29 @@ use Rattle.captures.specs.Captures.{sizes_of}
 use Rattle.captures.specs.CaptureFaults.{failures_of}
 use Rattle.captures.specs.Readers.{ReaderAfter, Gave, FailsNext}
 use Rattle.arrivals.specs.Batches.{sent_to}
-use Rattle.arrivals.specs.SeatStates.{SeatState, seat_at}
+use Rattle.arrivals.specs.QueueStates.{QueueState, queued_at}
 use Rattle.arrivals.specs.Connections.{AreTiers}
-use Rattle.arrivals.specs.declared.seat.Waiting.{Waiting}
+use Rattle.arrivals.specs.declared.connection_queue.Waiting.{Waiting}
 use Rattle.arrivals.specs.declared.batch.Ending.{Ending}
 use Rattle.arrivals.specs.declared.batch.Ending.TheVariants.{More, End, Fault}
 
--- a seat with more after what waits there
-abbrev pub with_more : SeatState → List Waiting → SeatState
+-- a queue with more after what waits there
+abbrev pub with_more : QueueState → List Waiting → QueueState
 with_more p more = record { connection = p.connection; waiting = p.waiting ++ more; lists = p.lists }
 
--- these records, in a batch: at each seat what they bring to its number waits after what waited there
-abbrev pub Adds : List Record → List SeatState → List SeatState → Type 0
-Adds rs old new = (c : ℕ) → seat_at new c ≡ with_more (seat_at old c) (sent_to c rs)
+-- these records, in a batch: at each queue what they bring to its number waits after what waited there
+abbrev pub Adds : List Record → List QueueState → List QueueState → Type 0
+Adds rs old new = (c : ℕ) → queued_at new c ≡ with_more (queued_at old c) (sent_to c rs)
 
-abbrev pub AddsOne : Record → List SeatState → List SeatState → Type 0
+abbrev pub AddsOne : Record → List QueueState → List QueueState → Type 0
 AddsOne r old new = Adds (r ∷ []) old new
 
 -- Memory ran out: of the records that the reader gave the last is lost. Those before it wait, and gave their tiers.
-abbrev pub LosesOne : List SeatState → List ℕ → Progress → Option (List ℕ) → List SeatState → List ℕ → Progress
+abbrev pub LosesOne : List QueueState → List ℕ → Progress → Option (List ℕ) → List QueueState → List ℕ → Progress
     → Option (List ℕ) → Type 0
-LosesOne seats tiers p ahead seats_new tiers_new p_new ahead_new = (rs : List Record) × (lost : Record)
-    × Adds rs seats seats_new × ((records : List Record) → AreTiers records tiers → AreTiers (records ++ rs) tiers_new)
+LosesOne queues tiers p ahead queues_new tiers_new p_new ahead_new = (rs : List Record) × (lost : Record)
+    × Adds rs queues queues_new
+    × ((records : List Record) → AreTiers records tiers → AreTiers (records ++ rs) tiers_new)
     × ((v : Version) (text : Option (List ℕ)) (start : ℕ) (records : List Record)
     → ReaderAfter v text start records p ahead → ReaderAfter v text start (records ++ rs ++ lost ∷ []) p_new ahead_new)
 

@@ -3,5 +3,5 @@ pub mod Connections
 pub mod Gathering
 pub mod Laws
 pub mod Picking
-pub mod SeatStates
+pub mod QueueStates
 pub mod Reference

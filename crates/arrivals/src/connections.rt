@@ -4,7 +4,8 @@ ghost use Rattle.std.specs.Prelude.{◌≡◌, ◌≢◌, ◌<◌, ◌≤◌, []
 ghost use Rattle.std.specs.Prelude.{IfNone};
 ghost use Rattle.http_requests.specs.declared.messages.Message.{Message as AMessage};
 ghost use Rattle.http_requests.specs.Cutting.{CutterAfter, max_text_bytes};
-ghost use Rattle.arrivals.specs.Connections.{HasRead, HasRoom, ReadMore, ReadSome, LacksAt, connection_at, some_closes};
+ghost use Rattle.arrivals.specs.Connections.{HasRead, HasCapacity, ReadMore, ReadSome, LacksAt, connection_at};
+ghost use Rattle.arrivals.specs.Connections.{some_closes};
 ghost use Rattle.arrivals.specs.declared.connections.Connection.TheVariants.{Closed, Silent};
 
 use http_requests::{Cutter, Message};
@@ -34,7 +35,7 @@ impl Connection {
     fn begin(&mut self, alloc: Global)
         ensures reads { (text : List ℕ) (ms : List AMessage)
             → HasRead self.old text ms → HasRead self.new text ms }
-        ensures room { (n : ℕ) → HasRoom self.old n → HasRoom self.new n }
+        ensures capacity { (n : ℕ) → HasCapacity self.old n → HasCapacity self.new n }
         ensures begun { self.new ≢ Silent }
     {
         if matches!(self, Connection::Silent) {
@@ -50,7 +51,7 @@ impl Connection {
         out: &mut Vec<Message>,
     ) -> Result<(), AllocError>
         requires empty { out.old.items ≡ [] }
-        requires room { HasRoom self.old (length piece.now) }
+        requires capacity { HasCapacity self.old (length piece.now) }
         ensures ok { OnOk result
             ((text : List ℕ) (ms : List AMessage) → HasRead self.old text ms
             → ReadMore text ms self.new piece.now out.new.items) }
@@ -106,7 +107,7 @@ impl Connections {
     fn reach(&mut self, conn: usize) -> Result<(), AllocError>
         ensures place { OnOk result (conn < length self.new) }
         ensures same { (c : ℕ) → connection_at self.new c ≡ connection_at self.old c }
-        ensures room { length self.new ≤ max (length self.old) (conn + 1) }
+        ensures capacity { length self.new ≤ max (length self.old) (conn + 1) }
     {
         while self.list.len() <= conn {
             self.list.push(Connection::Silent)?;
@@ -125,14 +126,14 @@ impl Connections {
         out: &mut Vec<Message>,
     ) -> Result<(), AllocError>
         requires empty { out.old.items ≡ [] }
-        requires room { HasRoom (connection_at self.old conn) (length piece.now) }
+        requires capacity { HasCapacity (connection_at self.old conn) (length piece.now) }
         ensures own { OnOk result ((text : List ℕ) (ms : List AMessage)
             → HasRead (connection_at self.old conn) text ms
             → ReadMore text ms (connection_at self.new conn) piece.now out.new.items) }
         ensures others { (c : ℕ) → c ≢ conn → connection_at self.new c ≡ connection_at self.old c }
         ensures lacks { OnErr result
             (LacksAt (connection_at self.old conn) (connection_at self.new conn) piece.now out.new.items) }
-        ensures room { length self.new ≤ max (length self.old) (conn + 1) }
+        ensures capacity { length self.new ≤ max (length self.old) (conn + 1) }
     {
         self.reach(conn)?;
         self.list[conn].read(alloc, piece, out)

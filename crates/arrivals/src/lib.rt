@@ -3,21 +3,21 @@
 #![tactic(auto)]
 
 mod batch;
+mod connection_queue;
+mod connection_queues;
 mod connections;
 mod fifo;
 mod incoming;
 pub mod laws;
 mod parts;
 mod picked;
-mod seat;
-mod seats;
 mod series;
 mod tiers;
 
 pub use batch::{Batch, Ending, read_batch};
+pub use connection_queues::ConnectionQueues;
 pub use connections::{Connections, some_closes};
 pub use incoming::{Incoming, Origin, PieceMessages};
 pub use parts::parts_of;
-pub use seats::Seats;
 pub use series::Series;
 pub use tiers::Tiers;

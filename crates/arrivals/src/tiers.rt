@@ -47,7 +47,7 @@ impl Tiers {
     fn reach(&mut self, conn: usize) -> Result<(), AllocError>
         ensures place { OnOk result (conn < length self.new) }
         ensures same { (c : ℕ) → tier_at self.new c ≡ tier_at self.old c }
-        ensures room { length self.new ≤ max (length self.old) (conn + 1) }
+        ensures capacity { length self.new ≤ max (length self.old) (conn + 1) }
     {
         while self.list.len() <= conn {
             self.list.push(0)?;
@@ -61,7 +61,7 @@ impl Tiers {
         ensures ok { OnOk result
             ((c : ℕ) → tier_at self.new c ≡ with_tier conn tier (tier_at self.old) c) }
         ensures err { OnErr result ((c : ℕ) → tier_at self.new c ≡ tier_at self.old c) }
-        ensures room { length self.new ≤ max (length self.old) (conn + 1) }
+        ensures capacity { length self.new ≤ max (length self.old) (conn + 1) }
     {
         let place = usize::from(conn);
         self.reach(place)?;

@@ -75,7 +75,7 @@ reads bytes = step (header_at (record { bytes = bytes; left = longest_text })) r
         let took = header_inverse v (record { bytes = bytes; left = longest_text }) b start e in
         let all : text_before_stop v start [] ≡ first_line v start ++ line_feed ∷ [] = append-nil (first_line v start ++ line_feed ∷ []) in
         let l = (format_of v).max_text_bytes - length (first_line v start ++ line_feed ∷ []) in
-        let room : length (first_line v start ++ line_feed ∷ []) ≤ (format_of v).max_text_bytes = room_for_header v start took.1 in
-        let own : (format_of v).max_text_bytes ≡ length (first_line v start ++ line_feed ∷ []) + l = omega (arith, room) in
+        let capacity : length (first_line v start ++ line_feed ∷ []) ≤ (format_of v).max_text_bytes = room_for_header v start took.1 in
+        let own : (format_of v).max_text_bytes ≡ length (first_line v start ++ line_feed ∷ []) + l = omega (arith, capacity) in
         reads_on v bytes (l + 1) start [] b.bytes l (rules_none v start took.1)
         (took.0.bytes ∙ ap (λ w. w ++ b.bytes) (sym all)) (own ∙ ap (λ w. length w + l) (sym all)) (omega arith)

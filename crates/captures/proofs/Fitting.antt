@@ -112,10 +112,10 @@ sizes_below (r ∷ records) = omega (arith, sizes_below records, size_below r, s
 
 -- ---- the reader
 
-pub fits_begins : (v : Version) (text now : Option (List ℕ)) (start left own room : ℕ) (s : SoFar) → room ≡ (format_of v).max_text_bytes → own ≡ room - (longest_text - left) → seen s ≡ past_of v [] → start ≤ max_start
+pub fits_begins : (v : Version) (text now : Option (List ℕ)) (start left own capacity : ℕ) (s : SoFar) → capacity ≡ (format_of v).max_text_bytes → own ≡ capacity - (longest_text - left) → seen s ≡ past_of v [] → start ≤ max_start
     → (is_some text ≡ true → (header_at (ahead_of text longest_text) ≡ Ok ((v, start), ahead_of now left)) × (is_some now ≡ true))
-    → ReaderAfter v text start [] (record { version = v; start = start; left = own; room = room; so_far = s; stage = Reading }) now
-fits_begins v text now start left own room s most less none in_time h =
+    → ReaderAfter v text start [] (record { version = v; start = start; left = own; capacity = capacity; so_far = s; stage = Reading }) now
+fits_begins v text now start left own capacity s most less none in_time h =
     let all : text_before_stop v start [] ≡ first_line v start ++ line_feed ∷ [] = append-nil (first_line v start ++ line_feed ∷ []) in
     let took = λ (k : is_some text ≡ true). (header_inverse v (ahead_of text longest_text) (ahead_of now left) start (h k).0).0 in
     record {
@@ -124,7 +124,7 @@ fits_begins v text now start left own room s most less none in_time h =
       begun = refl;
       rules = rules_none v start in_time;
       past = none;
-      room = omega (arith, most);
+      capacity = omega (arith, most);
       taken = λ k. (took k).bytes ∙ ap (λ w. w ++ unwrap_or now []) (sym all);
       left = λ k. (let whole = (took k).left in let e = ap length all in omega (arith, whole, e, most, less, room_for_header v start in_time));
       known = λ k. (h k).1;
@@ -137,7 +137,7 @@ next_takes : (v : Version) (text now new : Option (List ℕ)) (start new_left : 
 next_takes v text now new start new_left records p x f h k =
     let own = subst (λ (w : Version). record_at w (seen p.so_far) (ahead_of now p.left) ≡ Ok (x, ahead_of new new_left)) f.version (h (f.known k)).0 in
     let read = subst (λ (q : Past). record_at v q (ahead_of now p.left) ≡ Ok (x, ahead_of new new_left)) f.past own in
-    let small : length records < 2 ^ 64 - 1 = let r = f.room in omega (arith, r, within_longest v) in
+    let small : length records < 2 ^ 64 - 1 = let r = f.capacity in omega (arith, r, within_longest v) in
     record_takes v (past_of v records) (ahead_of now p.left) (ahead_of new new_left) x small read
 
 -- a text and what was taken after it
@@ -145,11 +145,11 @@ front_then : (text before taken now new : List ℕ) → text ≡ before ++ now �
 front_then text before taken now new a b = a ∙ (ap (λ w. before ++ w) b ∙ sym (append_assoc before taken new))
 
 pub fits_goes_on : (v : Version) (text now new : Option (List ℕ)) (start : ℕ) (records : List Record) (p q : Progress) (x : Option Record) (r : Record) → x ≡ Some r
-    → ReaderAfter v text start records p now → Follows p.version (seen p.so_far) r → size_of r + 1 + q.room ≡ p.room
+    → ReaderAfter v text start records p now → Follows p.version (seen p.so_far) r → size_of r + 1 + q.capacity ≡ p.capacity
     → (p.so_far.count < 2 ^ 64 - 1 → seen q.so_far ≡ after p.version (seen p.so_far) r) → q.version ≡ p.version → q.start ≡ p.start → q.stage ≡ p.stage
     → (is_some now ≡ true → (record_at p.version (seen p.so_far) (ahead_of now p.left) ≡ Ok (x, ahead_of new q.left)) × (is_some new ≡ true))
     → ReaderAfter v text start (records ++ r ∷ []) q new
-fits_goes_on v text now new start records p q x r some f follows room more same_version same_start same_stage h =
+fits_goes_on v text now new start records p q x r some f follows capacity more same_version same_start same_stage h =
     let count : p.so_far.count ≡ length records = ap (λ (s : Past). s.count) f.past in
     let took = λ (k : is_some text ≡ true). subst (λ (o : Option Record). TakesAhead (ahead_of now p.left) (next_text (past_of v records) o) (ahead_of new q.left)) some (next_takes v text now new start q.left records p x f h k).0 in
     let own : Follows v (past_of v records) r = subst (λ (s : Past). Follows v s r) f.past (subst (λ (w : Version). Follows w (seen p.so_far) r) f.version follows) in
@@ -159,8 +159,8 @@ fits_goes_on v text now new start records p q x r some f follows room more same_
       version = same_version ∙ f.version;
       begun = same_start ∙ f.begun;
       rules = rules_more v start records r f.rules own;
-      past = more (let r = f.room in omega (arith, r, count, within_longest v)) ∙ (λ i. after (f.version i) (f.past i) r) ∙ sym (past_more v records r (all_low v records f.rules.each) (is_low v r (follows_limits v (past_of v records) r own)));
-      room = let before = f.room in omega (arith, length_push records r, sum_by_push size_of records r);
+      past = more (let r = f.capacity in omega (arith, r, count, within_longest v)) ∙ (λ i. after (f.version i) (f.past i) r) ∙ sym (past_more v records r (all_low v records f.rules.each) (is_low v r (follows_limits v (past_of v records) r own)));
+      capacity = let before = f.capacity in omega (arith, length_push records r, sum_by_push size_of records r);
       taken = λ k. front_then (unwrap_or text []) (text_before_stop v start records) (record_text r) (unwrap_or now []) (unwrap_or new []) (f.taken k) (took k).bytes ∙ ap (λ w. w ++ unwrap_or new []) longer;
       left = λ k. let before = f.left k in let now_left = (took k).left in let e = ap length longer in omega (arith, length-append (text_before_stop v start records) (record_text r));
       known = λ k. (h (f.known k)).1;
@@ -202,13 +202,13 @@ fits_faults v text now start at records p kind is f h = λ k foreseen.
 
 -- there is room for each record of a text
 pub fits_has_room : (v : Version) (text now new : Option (List ℕ)) (start new_left : ℕ) (records : List Record) (p : Progress) (x : Option Record) (r : Record) → x ≡ Some r
-    → ReaderAfter v text start records p now → p.room ≤ size_of r
+    → ReaderAfter v text start records p now → p.capacity ≤ size_of r
     → (is_some now ≡ true → (record_at p.version (seen p.so_far) (ahead_of now p.left) ≡ Ok (x, ahead_of new new_left)) × (is_some new ≡ true))
     → is_some text ≡ true → ⊥
 fits_has_room v text now new start new_left records p x r some f full h k =
     let took = subst (λ (o : Option Record). TakesAhead (ahead_of now p.left) (next_text (past_of v records) o) (ahead_of new new_left)) some (next_takes v text now new start new_left records p x f h k).0 in
     let all = f.left k in
-    let room = f.room in
+    let capacity = f.capacity in
     let now_left = took.left in
     omega (arith, sizes_below records, size_below r, length-append (first_line v start ++ line_feed ∷ []) (flat_map record_text records))
 
@@ -216,4 +216,4 @@ fits_has_room v text now new start new_left records p x r some f full h k =
 pub fits_at : (v : Version) (text now : Option (List ℕ)) (start : ℕ) (records : List Record) (p : Progress) → ReaderAfter v text start records p now → (p.so_far.count ≡ length records) × (p.so_far.count ≤ longest_text)
 fits_at v text now start records p f =
     let count : p.so_far.count ≡ length records = ap (λ (s : Past). s.count) f.past in
-    (count, let r = f.room in omega (arith, r, count, within_longest v))
+    (count, let r = f.capacity in omega (arith, r, count, within_longest v))

@@ -53,7 +53,7 @@ gave_more v text now start records p x r is h = subst (λ (o : Option Record). G
 
 -- there are fewer records than 64 bits count
 pub fits_few : (v : Version) (text now : Option (List ℕ)) (start : ℕ) (records : List Record) (p : Progress) → ReaderAfter v text start records p now → length records ≤ (format_of v).max_text_bytes
-fits_few v text now start records p f = let r = f.room in omega arith
+fits_few v text now start records p f = let r = f.capacity in omega arith
 
 -- ---- what stands
 

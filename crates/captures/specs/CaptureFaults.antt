@@ -27,7 +27,7 @@ use Rattle.captures.specs.declared.capture_fault.CaptureFaultKind.TheVariants.{C
 use Rattle.captures.specs.declared.capture_fault.CaptureFaultKind.TheVariants.{Length, Count, Trailing, TooLarge, Read}
 use Rattle.captures.specs.declared.capture_fault.CaptureFaultKind.TheVariants.{Memory}
 
--- the name of a kind, as in a line that tells of the fault
+-- the name of a kind, as in a line that reports the fault
 abbrev pub kind_name : CaptureFaultKind → List ℕ
 kind_name Cut = codes "Cut"
 kind_name Header = codes "Header"
@@ -88,7 +88,7 @@ start_of line =
     else if opens Traffic line then start_after Traffic line
     else Err Header
 
--- the most bytes of a text, before its first line has told the format
+-- the most bytes of a text, before its first line has given the format
 abbrev pub longest_text : ℕ
 longest_text = (format_of Traffic).max_text_bytes
 

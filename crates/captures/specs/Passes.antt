@@ -82,13 +82,13 @@ abbrev pub writer_failures : PassFault → ℕ
 writer_failures Unwritten = 1
 writer_failures other = 0
 
--- where the fault isn't the capture's, a read that failed before it may go untold
-abbrev pub leaves_reads_untold : PassFault → Bool
-leaves_reads_untold (Capture f) = false
-leaves_reads_untold other = true
+-- where the fault isn't the capture's, a read that failed before it may go unreported
+abbrev pub leaves_reads_unreported : PassFault → Bool
+leaves_reads_unreported (Capture f) = false
+leaves_reads_unreported other = true
 
--- the count of a reader rose by what the answer blames on it; or the answer is one that may leave a failed read untold,
+-- the count of a reader rose by the failures of it in the answer; or the answer may leave a failed read unreported,
 -- and the reader failed once
-abbrev pub BlamesReader : {X E : Type 0} → (E → ℕ) → (E → Bool) → ℕ → ℕ → Result X E → Type 0
-BlamesReader blamed untold old new r = MatchResult r (λ _. new ≡ old)
-    (λ e. (new ≡ old + blamed e) ⊎ ((untold e ≡ true) × (new ≡ old + 1)))
+abbrev pub AttributesReads : {X E : Type 0} → (E → ℕ) → (E → Bool) → ℕ → ℕ → Result X E → Type 0
+AttributesReads attributed unreported old new r = MatchResult r (λ _. new ≡ old)
+    (λ e. (new ≡ old + attributed e) ⊎ ((unreported e ≡ true) × (new ≡ old + 1)))

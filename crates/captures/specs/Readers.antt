@@ -24,7 +24,7 @@ use Rattle.devices.specs.declared.text.Stop.{Stop}
 use Rattle.captures.specs.declared.headings.Heading.{Heading}
 use Rattle.captures.specs.declared.reader.CaptureReader.{CaptureReader}
 
--- The line of a record, as it is read: what it owes is read at once.
+-- The line of a record, as it is read: its shortest rest is read at once.
 
 -- The call gave the next line. Where that announces something in this version, what follows the line is ahead now.
 abbrev pub GivesLine : Version → Option (List ℕ) → ℕ → Option (List ℕ) → ℕ → Result (List ℕ) Stop → Type 0
@@ -67,7 +67,7 @@ pub record ReaderAfter (v : Version) (text : Option (List ℕ)) (start : ℕ) (r
   pub begun : p.start ≡ start
   pub rules : IsCapture v start records
   pub past : seen p.so_far ≡ past_of v records
-  pub room : length records + sizes_of records + p.room ≡ (format_of v).max_text_bytes
+  pub capacity : length records + sizes_of records + p.capacity ≡ (format_of v).max_text_bytes
   pub taken : is_some text ≡ true → unwrap_or text [] ≡ text_before_stop v start records ++ unwrap_or now []
   pub left : is_some text ≡ true → (format_of v).max_text_bytes ≡ length (text_before_stop v start records) + p.left
   pub known : is_some text ≡ true → is_some now ≡ true
@@ -138,10 +138,10 @@ GivesNext old before r new now = (version : Version) (text : Option (List ℕ)) 
     → ReaderAfter version text start records old before
     → Gave version text start records r new now × FailsNext version text start records r now
 
--- A record that a reader gives is within the limits and takes its room, whatever the bytes of the device are.
-pub record IsGiven (old new : Progress) (r : Record) : Type 0 where
+-- A record that a reader gives is within the limits and fits into the rest, whatever the bytes of the device are.
+pub record IsRead (old new : Progress) (r : Record) : Type 0 where
   pub limits : IsRecord old.version r
-  pub room : size_of r + 1 + new.room ≡ old.room
+  pub capacity : size_of r + 1 + new.capacity ≡ old.capacity
 
 -- A reader comes to this answer, and stays that of the same capture.
 pub record ComesTo (old new : Progress) (r : Result (Option Record) CaptureFault) : Type 0 where

@@ -145,13 +145,13 @@ abbrev pub ticks_of : List Record → List ℕ
 ticks_of records = flat_map tick_of records
 
 -- the tier that a record gives a connection, and the tier of a connection: 0 where no record gives it one
-abbrev pub tier_given : ℕ → Record → List ℕ
-tier_given c (Piece tick conn bytes) = []
-tier_given c (End tick conn) = []
-tier_given c (Tier conn tier) = if conn == c then tier ∷ [] else []
+abbrev pub tier_set : ℕ → Record → List ℕ
+tier_set c (Piece tick conn bytes) = []
+tier_set c (End tick conn) = []
+tier_set c (Tier conn tier) = if conn == c then tier ∷ [] else []
 
 abbrev pub tier_of : ℕ → List Record → ℕ
-tier_of c records = last_of (flat_map (tier_given c) records)
+tier_of c records = last_of (flat_map (tier_set c) records)
 
 -- a record within the limits
 abbrev pub IsRecord : Version → Record → Type 0

@@ -10,7 +10,7 @@ use std::fmt;
 /// What is wrong with a record of a capture.
 #[derive(Clone, Copy, Debug, PartialEq, Eq)]
 pub enum CaptureFaultKind {
-    /// The input ends before a line feed or before bytes that the text owes.
+    /// The input ends before a line feed or before bytes that it announces.
     Cut,
     /// The first line is another than that of a capture, or the start is past its limit.
     Header,
@@ -41,7 +41,7 @@ pub enum CaptureFaultKind {
 }
 
 impl CaptureFaultKind {
-    /// Its name, as in a line that tells of the fault.
+    /// Its name, as in a line that reports the fault.
     pub fn name(self) -> &'static str
         ensures name { result.now ≡ kind_name self }
         ensures short { length result.now ≤ 12 }

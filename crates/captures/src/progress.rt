@@ -5,7 +5,7 @@ ghost use Rattle.devices.specs.Devices.{CanFail};
 ghost use Rattle.devices.specs.Parts.{TookAtMost};
 ghost use Rattle.captures.specs.Captures.{longest_record, size_of};
 ghost use Rattle.captures.specs.CaptureFaults.{CountsFault};
-ghost use Rattle.captures.specs.Readers.{ComesTo, FailsFirst, GivesNext, HasOpened, IsGiven, IsOpeningFault};
+ghost use Rattle.captures.specs.Readers.{ComesTo, FailsFirst, GivesNext, HasOpened, IsRead, IsOpeningFault};
 
 use crate::headings::{read_header, read_record};
 use crate::so_far::SoFar;
@@ -25,7 +25,7 @@ pub enum ReaderState {
     Failed(CaptureFault),
 }
 
-/// The most bytes of a text, before its first line has told the format: those of the longest.
+/// The most bytes of a text, before its first line has given the format: those of the longest.
 const LONGEST_TEXT: usize = 1_125_899_906_842_624;
 
 /// How far a capture was read.
@@ -38,19 +38,19 @@ pub struct Progress {
     pub left: usize,
     /// How many bytes further records may bring, with one for each record. `left` is the sharper bound, but it is known
     /// to fall only where the bytes of the device are known; this one falls with each record of any device.
-    pub room: usize,
+    pub capacity: usize,
     pub so_far: SoFar,
     pub stage: ReaderState,
 }
 
 /// How many bytes records may bring after this one, where it may come.
-fn room_after(room: usize, next: &Record) -> Option<usize>
-    ensures some { IfSome result (λ following. size_of next.now + 1 + following ≡ room) }
-    ensures none { IfNone result (room ≤ size_of next.now) }
+fn capacity_after(capacity: usize, next: &Record) -> Option<usize>
+    ensures some { IfSome result (λ following. size_of next.now + 1 + following ≡ capacity) }
+    ensures none { IfNone result (capacity ≤ size_of next.now) }
 {
     let size = next.size();
-    if size < room {
-        Some(room - size - 1)
+    if size < capacity {
+        Some(capacity - size - 1)
     } else {
         None
     }
@@ -76,7 +76,7 @@ impl Progress {
                     version,
                     start,
                     left: most.saturating_sub(LONGEST_TEXT.saturating_sub(left)),
-                    room: most,
+                    capacity: most,
                     so_far: SoFar::new(),
                     stage: ReaderState::Reading,
                 })
@@ -104,7 +104,7 @@ impl Progress {
         requires failures { CanFail input.old }
         requires stage { self.old.stage ≡ ReaderState.Reading }
         ensures next { GivesNext self.old input.old.bytes result self.new input.new.bytes }
-        ensures given { IfOk result (λ next. IfSome next (IsGiven self.old self.new)) }
+        ensures given { IfOk result (λ next. IfSome next (IsRead self.old self.new)) }
         ensures stands { ComesTo self.old self.new result }
         ensures count { CountsFault input.old.failures input.new.failures result }
         // At most the longest record was taken, and one byte past the limit.
@@ -113,9 +113,9 @@ impl Progress {
     {
         let at = self.so_far.count.saturating_add(1);
         match read_record(alloc, input, &mut self.left, self.version, &self.so_far) {
-            Ok(Some(record)) => match room_after(self.room, &record) {
-                Some(room) => {
-                    self.room = room;
+            Ok(Some(record)) => match capacity_after(self.capacity, &record) {
+                Some(capacity) => {
+                    self.capacity = capacity;
                     self.so_far.add(self.version, &record);
                     Ok(Some(record))
                 }

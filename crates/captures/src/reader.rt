@@ -7,7 +7,7 @@ ghost use Rattle.devices.specs.Parts.{TookAtMost};
 ghost use Rattle.devices.specs.contracts.device.Input.{the_row};
 ghost use Rattle.captures.specs.Captures.{longest_record};
 ghost use Rattle.captures.specs.CaptureFaults.{CountsFault};
-ghost use Rattle.captures.specs.Readers.{ComesTo, CountsNext, FailsFirst, GivesNext, HasOpened, IsGiven};
+ghost use Rattle.captures.specs.Readers.{ComesTo, CountsNext, FailsFirst, GivesNext, HasOpened, IsRead};
 ghost use Rattle.captures.specs.Readers.{IsOpeningFault, Repeats};
 
 use crate::progress::{Progress, ReaderState};
@@ -66,7 +66,7 @@ impl<'a, R: Read> CaptureReader<'a, R> {
         ensures next { GivesNext (progress_of self.old) (device_of self.old).bytes
             result (progress_of self.new) (device_of self.new).bytes }
         ensures given { IfOk result
-            (λ next. IfSome next (IsGiven (progress_of self.old) (progress_of self.new))) }
+            (λ next. IfSome next (IsRead (progress_of self.old) (progress_of self.new))) }
         ensures stands { ComesTo (progress_of self.old) (progress_of self.new) result
             × (loan_of self.new ≡ loan_of self.old) }
         ensures again { Repeats (progress_of self.old).stage result

@@ -31,7 +31,7 @@ pub fn upgrade<R: Read, W: Write>(
     // After a capture's fault, the first line and the whole records before it stand; else a prefix of what was due.
     ensures fault { IfErr result
         (Leaves to reader.old.bytes reader.new.bytes writer.old.bytes writer.new.bytes) }
-    // A device is blamed only where it failed in this call.
+    // A device is reported only where it failed in this call.
     ensures reads { CountsBy reader_failures reader.old.failures reader.new.failures result }
     ensures writes { CountsBy writer_failures writer.old.failures writer.new.failures result }
 {

@@ -10,7 +10,7 @@ use Rattle.paths.specs.Reference.{asked}
 
 -- How long a virtual server works on a request, in ticks of one microsecond.
 
--- what a file costs, what each 1,024 bytes of it that are given cost besides, and what every other answer costs; how
+-- what a file costs, what each 1,024 bytes of it that are sent cost besides, and what every other answer costs; how
 -- many servers work side by side on what no pool works on; and how long each response takes beside their work
 pub record CostTable : Type 0 where
   pub file : ℕ
@@ -23,7 +23,7 @@ pub record CostTable : Type 0 where
 abbrev pub bytes_cost : ℕ → ℕ → ℕ
 bytes_cost kib len = (len * kib + 1023) / 1024
 
--- A file whose bytes are given costs its length besides; the answer to a HEAD of it, and that it was not modified, do
+-- A file whose bytes are sent costs its length besides; the answer to a HEAD of it, and that it was not modified, do
 -- not.
 abbrev pub service : CostTable → Outcome → Bool → Bool → ℕ → ℕ
 service costs (File file) head unmodified len =
@@ -33,7 +33,7 @@ service costs _ head unmodified len = costs.error
 
 -- Some requests cost something else, by their paths.
 
--- the requests whose path begins with these segments: what each costs, what each 1,024 bytes of a file that are given
+-- the requests whose path begins with these segments: what each costs, what each 1,024 bytes of a file that are sent
 -- cost besides, how long its response takes beside the servers' work, and the pool of servers that works on it: pool 0
 -- has the servers of the table
 pub record Route : Type 0 where
@@ -55,10 +55,10 @@ abbrev pub route_of : List Route → Asked → Option Route
 route_of routes (Path segments folder) = find (λ route. starts_with bytes_eq segments route.prefix) routes
 route_of routes other = None
 
--- how many of a file's bytes are given
-abbrev pub bytes_given : Outcome → Bool → Bool → ℕ → ℕ
-bytes_given (File file) head unmodified len = if head || unmodified then 0 else len
-bytes_given _ head unmodified len = 0
+-- how many of a file's bytes are sent
+abbrev pub bytes_sent : Outcome → Bool → Bool → ℕ → ℕ
+bytes_sent (File file) head unmodified len = if head || unmodified then 0 else len
+bytes_sent _ head unmodified len = 0
 
 -- what a request comes to: how long a server works on it, how long its response takes besides, and of which pool that
 -- server is
@@ -70,7 +70,7 @@ pub record Charge : Type 0 where
 -- on a route a request costs what the route says, whatever it is answered with
 abbrev pub charge_on : CostTable → Option Route → Outcome → Bool → Bool → ℕ → Charge
 charge_on costs (Some route) answer head unmodified len = record {
-  service = route.cost + bytes_cost route.kib (bytes_given answer head unmodified len);
+  service = route.cost + bytes_cost route.kib (bytes_sent answer head unmodified len);
   delay = route.delay;
   pool = route.pool;
 }

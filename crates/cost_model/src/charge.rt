@@ -3,7 +3,7 @@
 ghost use Rattle.std.specs.Prelude.{◌≡◌, ◌≤◌, [], length, IfOk, IsOk};
 ghost use Rattle.std.specs.Option.{option_map};
 ghost use Rattle.paths.specs.Snapshots.{max_file_bytes};
-ghost use Rattle.cost_model.specs.Reference.{bytes_given, charge, charge_on};
+ghost use Rattle.cost_model.specs.Reference.{bytes_sent, charge, charge_on};
 ghost use Rattle.cost_model.specs.Services.{AreServed, MAX_DELAY, longest_service};
 
 use crate::{Costs, Pools, Route, Routes, service};
@@ -59,10 +59,10 @@ impl Charge {
     }
 }
 
-/// How many of a file's bytes are given, by what a request is answered with.
-fn bytes_given(outcome: &Outcome, head: bool, unmodified: bool, len: u64) -> u64
+/// How many of a file's bytes are sent, by what a request is answered with.
+fn bytes_sent(outcome: &Outcome, head: bool, unmodified: bool, len: u64) -> u64
     requires { len ≤ max_file_bytes }
-    ensures bytes { result ≡ bytes_given outcome.now head unmodified len }
+    ensures bytes { result ≡ bytes_sent outcome.now head unmodified len }
     ensures range { result ≤ max_file_bytes }
 {
     match outcome {
@@ -86,7 +86,7 @@ fn charge_on(
 {
     match route {
         Some(route) => Charge {
-            service: route.service(bytes_given(outcome, head, unmodified, len)),
+            service: route.service(bytes_sent(outcome, head, unmodified, len)),
             delay: route.delay(),
             pool: route.pool(),
         },

@@ -51,7 +51,7 @@ impl Model for Costs {
 }
 
 impl Costs {
-    /// The costs of numbers that are in their ranges: of a file, of each 1,024 bytes of it that are given, and of every
+    /// The costs of numbers that are in their ranges: of a file, of each 1,024 bytes of it that are sent, and of every
     /// other answer; of one server, without a delay.
     pub fn in_range(file: u64, kib: u64, error: u64) -> Costs
         requires { is_in_range
@@ -103,7 +103,7 @@ impl Costs {
         self.delay
     }
 
-    /// The costs of a file (1 to 1,000,000 ticks), of each 1,024 bytes of it that are given (0 to 1,000,000), and of
+    /// The costs of a file (1 to 1,000,000 ticks), of each 1,024 bytes of it that are sent (0 to 1,000,000), and of
     /// every other answer (1 to 1,000,000); of one server, without a delay.
     ///
     /// # Errors

@@ -37,7 +37,7 @@ impl Model for Route {
 }
 
 impl Route {
-    /// The route of this prefix: a request costs 1 to 1,000,000,000 ticks, each 1,024 bytes that are given besides 0 to
+    /// The route of this prefix: a request costs 1 to 1,000,000,000 ticks, each 1,024 bytes that are sent besides 0 to
     /// 1,000,000, and its response takes 0 to 1,000,000,000 beside that. The servers of this pool work on it (0 to 16;
     /// pool 0 has those of the table).
     pub fn in_range(prefix: Prefix, cost: u64, kib: u64, delay: u64, pool: u8) -> Route
@@ -69,7 +69,7 @@ impl Route {
         self.prefix.begins(path)
     }
 
-    /// How long a server works on a request that so many bytes of a file are given to, 1 to 20,000,000,000 ticks.
+    /// How long a server works on a request that so many bytes of a file are sent to, 1 to 20,000,000,000 ticks.
     pub(crate) fn service(&self, bytes: u64) -> u64
         requires { bytes ≤ max_file_bytes }
         ensures service { result ≡ self.now.cost + bytes_cost self.now.kib bytes }

@@ -1,4 +1,4 @@
-//! A row of the table of decisions: what is told of one message.
+//! A row of the table of decisions: what is reported of one message.
 
 use admission::{Decision, Outlook};
 

@@ -28,12 +28,12 @@ took_more most more o n m l nl taken t size h k =
       rest.3,
     )
 
--- and then the first bytes of a room came
-pub took_piece : (most : ℕ) (o n m : Option (List ℕ)) (l nl count : ℕ) (taken room : List ℕ) → Takes o l n nl taken → count ≤ length room
-    → (is_some n ≡ true → (unwrap_or n [] ≡ take count room ++ unwrap_or m []) × (is_some m ≡ true))
+-- and then the first bytes of a buffer came
+pub took_piece : (most : ℕ) (o n m : Option (List ℕ)) (l nl count : ℕ) (taken buffer : List ℕ) → Takes o l n nl taken → count ≤ length buffer
+    → (is_some n ≡ true → (unwrap_or n [] ≡ take count buffer ++ unwrap_or m []) × (is_some m ≡ true))
     → (l ≡ length taken + nl → length taken + count ≤ most) → TookAtMost most o m
-took_piece most o n m l nl count taken room t within came size =
-    took_more most count o n m l nl taken t size (λ k. let now = came k in (take count room, now.0, omega (arith, length-take count room), now.1))
+took_piece most o n m l nl count taken buffer t within came size =
+    took_more most count o n m l nl taken t size (λ k. let now = came k in (take count buffer, now.0, omega (arith, length-take count buffer), now.1))
 
 -- fewer than so many are fewer than more
 pub took_within : (fewer most : ℕ) (o n : Option (List ℕ)) → fewer ≤ most → TookAtMost fewer o n → TookAtMost most o n

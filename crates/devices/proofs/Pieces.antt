@@ -1,4 +1,4 @@
--- A line that is read piece by piece, as far as it owes bytes.
+-- A line that is read piece by piece, each as long as its shortest rest.
 use Rattle.std.specs.List.{position, position_or_len, before_first, prefix_len, starts_with}
 use Rattle.std.proofs.Common.{◌≡◌, ℕ, ◌+◌, ◌-◌, ◌<◌, ◌≤◌, ◌==◌, not, nat_lt, Bool, true, false, List, [], ◌∷◌, ◌++◌, length, take, drop, get_or, Option, eq-eqb, Some, None, Result, Ok, Err, refl, sym, ap, ◌∙◌, subst, arith, nat_eq, is_some, unwrap_or}
 use Rattle.std.proofs.lemmas.Bool.Decides.{nat_tests, Decides-eqb}
@@ -10,7 +10,7 @@ use Rattle.std.proofs.lemmas.Slice.Eq.{starts_is}
 use Rattle.devices.specs.Numbers.{number_of, number_and_rest, three_numbers, ◌>>=◌ as ◌>?=◌}
 use Rattle.devices.specs.declared.text.Stop.{Stop}
 use Rattle.devices.specs.Texts.{Ahead, ahead_of, byte_at, line_at, available, ended, Gives, is_unforeseen, IsLong}
-use Rattle.devices.specs.Texts.{IsOwed, GivesLongLine}
+use Rattle.devices.specs.Texts.{IsShortestRest, GivesLongLine}
 use Rattle.devices.proofs.Taking.{Takes, TakesLine, takes_more, line_whole}
 
 bind_some : {A B : Type 0} (o : Option A) (f : A → Option B) (y : B) → (o >?= f) ≡ Some y → (x : A) × (o ≡ Some x) × (f x ≡ Some y)
@@ -44,7 +44,7 @@ three_long text numbers h =
 
 -- a line goes on that begins with its kind, in its first bytes
 pub owes_rest : (least longer : ℕ) (kind prefix : List ℕ) → length prefix ≡ least → starts_with nat_eq prefix kind ≡ true
-    → IsOwed least kind longer prefix (longer - least)
+    → IsShortestRest least kind longer prefix (longer - least)
 owes_rest least longer kind prefix size begins rest long =
     let cut : prefix ≡ kind ++ drop (length kind) prefix = (starts_is Decides-eqb prefix kind (starts_with nat_eq prefix kind) refl).0 begins in
     let whole : prefix ++ rest ≡ kind ++ (drop (length kind) prefix ++ rest) = ap (λ v. v ++ rest) cut ∙ append_assoc kind (drop (length kind) prefix) rest in
@@ -53,7 +53,7 @@ owes_rest least longer kind prefix size begins rest long =
 
 -- the read took these bytes of what was ahead
 abbrev pub Came : Option (List ℕ) → ℕ → Option (List ℕ) → ℕ → ℕ → List ℕ → Type 0
-Came o l n nl count room = is_some o ≡ true → (unwrap_or o [] ≡ take count room ++ unwrap_or n []) × (is_some n ≡ true)
+Came o l n nl count buffer = is_some o ≡ true → (unwrap_or o [] ≡ take count buffer ++ unwrap_or n []) × (is_some n ≡ true)
 
 is_nil : (xs : List ℕ) → length xs ≡ 0 → xs ≡ []
 is_nil [] h = refl
@@ -65,13 +65,13 @@ feeds_on : (line more : List ℕ) → prefix_len (λ b. not (b == 10)) line ≡ 
 feeds_on line more a b = rw (prefix_len-append (λ x. not (x == 10)) line more, eq-eqb (prefix_len (λ x. not (x == 10)) line) (length line) a, length-append line more) (omega (arith, b))
 
 -- no line feed came
-pub piece_more : (o n m : Option (List ℕ)) (l nl ml count : ℕ) (line came after room : List ℕ) (r : Bool) → TakesLine o l n nl line → came ≡ take count room
-    → count ≤ length room → nl ≡ count + ml → Came n nl m ml count room → after ≡ line ++ before_first (λ b. b == 10) came
+pub piece_more : (o n m : Option (List ℕ)) (l nl ml count : ℕ) (line came after buffer : List ℕ) (r : Bool) → TakesLine o l n nl line → came ≡ take count buffer
+    → count ≤ length buffer → nl ≡ count + ml → Came n nl m ml count buffer → after ≡ line ++ before_first (λ b. b == 10) came
     → r ≡ nat_lt (length (before_first (λ b. b == 10) came)) (length came) → r ≡ false → TakesLine o l m ml after × (length after ≡ length line + count)
-piece_more o n m l nl ml count line came after room r t came_is within left bytes after_is found none =
+piece_more o n m l nl ml count line came after buffer r t came_is within left bytes after_is found none =
     let p = prefix_len (λ b. not (b == 10)) came in
     let below : p ≤ length came = prefix_len-le-length (λ b. not (b == 10)) came in
-    let size : length came ≡ count = omega (arith, ap length came_is, length-take count room) in
+    let size : length came ≡ count = omega (arith, ap length came_is, length-take count buffer) in
     let test : nat_lt (length (take p came)) (length came) ≡ false = sym found ∙ none in
     let all : p ≡ length came = let s = length-take p came in grind (arith, nat_tests) in
     let whole : after ≡ line ++ came = after_is ∙ ap (λ v. line ++ v) (take_all p came (omega arith)) in
@@ -83,14 +83,14 @@ piece_more o n m l nl ml count line came after room r t came_is within left byte
     rw whole (record { takes = takes_more o n m l nl ml line came t.takes step; feeds = feeds_on line came t.feeds all }, omega (arith, length-append line came))
 
 -- a line feed came, and after it nothing more where the line announces something
-pub piece_ends : (least longer : ℕ) (kind : List ℕ) (o n m : Option (List ℕ)) (l nl ml count owed : ℕ) (line came after room : List ℕ) (r : Bool) → TakesLine o l n nl line → came ≡ take count room
-    → count ≤ length room → nl ≡ count + ml → Came n nl m ml count room → after ≡ line ++ before_first (λ b. b == 10) came
-    → r ≡ nat_lt (length (before_first (λ b. b == 10) came)) (length came) → r ≡ true → length line + count ≤ 65 → count ≤ owed → IsOwed least kind longer line owed
+pub piece_ends : (least longer : ℕ) (kind : List ℕ) (o n m : Option (List ℕ)) (l nl ml count shortest_rest : ℕ) (line came after buffer : List ℕ) (r : Bool) → TakesLine o l n nl line → came ≡ take count buffer
+    → count ≤ length buffer → nl ≡ count + ml → Came n nl m ml count buffer → after ≡ line ++ before_first (λ b. b == 10) came
+    → r ≡ nat_lt (length (before_first (λ b. b == 10) came)) (length came) → r ≡ true → length line + count ≤ 65 → count ≤ shortest_rest → IsShortestRest least kind longer line shortest_rest
     → is_some o ≡ true → (following : Ahead) × (line_at (ahead_of o l) ≡ Ok (after, following)) × (is_some m ≡ true) × (IsLong least kind longer after → following ≡ ahead_of m ml)
-piece_ends least longer kind o n m l nl ml count owed line came after room r t came_is within left bytes after_is found some short in_owed owes k =
+piece_ends least longer kind o n m l nl ml count shortest_rest line came after buffer r t came_is within left bytes after_is found some short in_owed owes k =
     let p = prefix_len (λ b. not (b == 10)) came in
     let below : p ≤ length came = prefix_len-le-length (λ b. not (b == 10)) came in
-    let size : length came ≡ count = omega (arith, ap length came_is, length-take count room) in
+    let size : length came ≡ count = omega (arith, ap length came_is, length-take count buffer) in
     let front_size : length (take p came) ≡ p = omega (arith, length-take p came) in
     let test : nat_lt (length (take p came)) (length came) ≡ true = sym found ∙ some in
     let lt : p < length came = grind (arith, nat_tests) in
@@ -115,7 +115,7 @@ piece_ends least longer kind o n m l nl ml count owed line came after room r t c
       ap (λ v. line_at (record { bytes = v; left = l })) text ∙ whole ∙ ap (λ (v : List ℕ). let w : Result (List ℕ × Ahead) Stop = Ok (v, following) in w) (sym after_is),
       (bytes kn).1,
       λ long.
-          let owed_is : owed ≤ length (take p came) + 1 = owes (take p came) (subst (λ (v : List ℕ). IsLong least kind longer v) after_is long) in
+          let owed_is : shortest_rest ≤ length (take p came) + 1 = owes (take p came) (subst (λ (v : List ℕ). IsLong least kind longer v) after_is long) in
           let none : rest ≡ [] = is_nil rest (omega arith) in
           let left_is : length rest + ml ≡ ml = omega (arith, ap length none) in
           ap (λ (v : List ℕ). let w : Ahead = record { bytes = v ++ ahead; left = length rest + ml } in w) none
@@ -134,6 +134,6 @@ long_line least longer kind old left new left_new (Err e) gives = gives
 pub piece_none : (a : Ahead) (e : Stop) → length (available a) ≡ 0 → e ≡ ended a → byte_at a ≡ Err e
 piece_none a e none is = let test : nat_lt 0 (length (available a)) ≡ false = grind (arith, nat_tests) in rw (test, is) refl
 
--- a read into a room gives no more than the room holds
-pub no_more : (count owed : ℕ) (room before : List ℕ) → count ≤ length room → length room ≡ length (take owed before) → count ≤ owed
-no_more count owed room before a b = omega (arith, length-take owed before)
+-- a read into a buffer gives no more than the buffer holds
+pub no_more : (count shortest_rest : ℕ) (buffer before : List ℕ) → count ≤ length buffer → length buffer ≡ length (take shortest_rest before) → count ≤ shortest_rest
+no_more count shortest_rest buffer before a b = omega (arith, length-take shortest_rest before)

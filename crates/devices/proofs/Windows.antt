@@ -7,14 +7,14 @@ use Rattle.std.proofs.Math.Seq.{take-add}
 use Rattle.devices.specs.Texts.{NoneAfterFeed}
 
 -- the bytes that wait are those given and those that wait then
-pub gives_front : (bytes room came : List ℕ) (start end count : ℕ) → count ≤ length (take (end - start) (drop start bytes)) → came ≡ take count (drop start bytes)
-    → take (end - start) (drop start bytes) ≡ take count (came ++ drop count room) ++ take (end - (start + count)) (drop (start + count) bytes)
-gives_front bytes room came start end count within is =
+pub gives_front : (bytes buffer came : List ℕ) (start end count : ℕ) → count ≤ length (take (end - start) (drop start bytes)) → came ≡ take count (drop start bytes)
+    → take (end - start) (drop start bytes) ≡ take count (came ++ drop count buffer) ++ take (end - (start + count)) (drop (start + count) bytes)
+gives_front bytes buffer came start end count within is =
     let waiting = drop start bytes in
     let more = end - (start + count) in
     let size : length (take count waiting) ≡ count = omega (arith, length-take count waiting, length-take (end - start) waiting) in
     let split : end - start ≡ count + more = omega (arith, length-take (end - start) waiting) in
-    let front : take count (came ++ drop count room) ≡ take count waiting = ap (λ v. take count (v ++ drop count room)) is ∙ take_at (take count waiting) (drop count room) count size in
+    let front : take count (came ++ drop count buffer) ≡ take count waiting = ap (λ v. take count (v ++ drop count buffer)) is ∙ take_at (take count waiting) (drop count buffer) count size in
     ap (λ n. take n waiting) split
     ∙ (take-add count more waiting
     ∙ (ap (λ v. take count waiting ++ take more v) (drop-drop count start bytes) ∙ ap (λ v. v ++ take more (drop (start + count) bytes)) (sym front)))

@@ -16,13 +16,13 @@ pub record Device : Type 0 where
 abbrev pub CanFail : Device → Type 0
 CanFail device = device.failures < 2 ^ 64 - 1
 
--- its count rose by what the answer blames on it, and by nothing at Ok
+-- its count rose by what the answer reports of it, and by nothing at Ok
 abbrev pub CountsBy : {X E : Type 0} → (E → ℕ) → ℕ → ℕ → Result X E → Type 0
-CountsBy blamed old new r = MatchResult r (λ _. new ≡ old) (λ e. new ≡ old + blamed e)
+CountsBy attributed old new r = MatchResult r (λ _. new ≡ old) (λ e. new ≡ old + attributed e)
 
--- it failed at most once in a call, and is blamed only where it did
-abbrev pub BlamedOnce : {X E : Type 0} → (E → ℕ) → ℕ → ℕ → Result X E → Type 0
-BlamedOnce blamed old new r = MatchResult r (λ _. new ≡ old) (λ e. (old + blamed e ≤ new) × (new ≤ old + 1))
+-- it failed at most once in a call, and is reported only where it did
+abbrev pub AttributedOnce : {X E : Type 0} → (E → ℕ) → ℕ → ℕ → Result X E → Type 0
+AttributedOnce attributed old new r = MatchResult r (λ _. new ≡ old) (λ e. (old + attributed e ≤ new) × (new ≤ old + 1))
 
 -- a device that has not failed yet
 abbrev pub fresh : Option (List ℕ) → Device
@@ -34,10 +34,10 @@ ahead_unless true bytes = Some []
 ahead_unless false bytes = bytes
 
 -- A read of an input that is over gives nothing, and changes nothing. One that isn't is over exactly where a read into
--- some room gave none.
+-- some buffer gave none.
 abbrev pub ReadsToEnd : Device → Device → Result ℕ Failed → List ℕ → Type 0
-ReadsToEnd old new r room = (old.over ≡ true → (r ≡ Ok 0) × (new ≡ old))
-    × (old.over ≡ false → MatchResult r (λ n. new.over ≡ (n == 0 && nat_lt 0 (length room))) (λ _. new.over ≡ false))
+ReadsToEnd old new r buffer = (old.over ≡ true → (r ≡ Ok 0) × (new ≡ old))
+    × (old.over ≡ false → MatchResult r (λ n. new.over ≡ (n == 0 && nat_lt 0 (length buffer))) (λ _. new.over ≡ false))
 
 -- the same of a read of one byte
 abbrev pub ByteToEnd : Device → Device → Result (Option ℕ) Failed → Type 0

@@ -68,19 +68,19 @@ Gives excused f old left new left_new r = is_some old ≡ true → MatchResult r
     (λ x. (f (ahead_of old left) ≡ Ok (x, ahead_of new left_new)) × (is_some new ≡ true))
     (λ e. excused e ≡ false → f (ahead_of old left) ≡ Err e)
 
--- One read into a room that isn't empty took some of the next bytes. It took none only where the text has none.
+-- One read into a buffer that isn't empty took some of the next bytes. It took none only where the text has none.
 abbrev pub TakesSome : Option (List ℕ) → ℕ → Option (List ℕ) → ℕ → List ℕ → Result ℕ Stop → Type 0
-TakesSome old left new left_new room r = MatchResult r
-    (λ n. (0 < n) × (n ≤ length room) × (left ≡ n + left_new)
-    × (is_some old ≡ true → (unwrap_or old [] ≡ take n room ++ unwrap_or new []) × (is_some new ≡ true)))
+TakesSome old left new left_new buffer r = MatchResult r
+    (λ n. (0 < n) × (n ≤ length buffer) × (left ≡ n + left_new)
+    × (is_some old ≡ true → (unwrap_or old [] ≡ take n buffer ++ unwrap_or new []) × (is_some new ≡ true)))
     (λ e. is_some old ≡ true → is_unforeseen e ≡ false → (length (available (ahead_of old left)) ≡ 0)
     × (e ≡ ended (ahead_of old left)))
 
--- a room was filled with the next bytes
+-- a buffer was filled with the next bytes
 abbrev pub Fills : Option (List ℕ) → ℕ → Option (List ℕ) → ℕ → List ℕ → Result Unit Stop → Type 0
-Fills old left new left_new room r = is_some old ≡ true → MatchResult r
-    (λ _. (run_at (length room) (ahead_of old left) ≡ Ok (room, ahead_of new left_new)) × (is_some new ≡ true))
-    (λ e. is_unforeseen e ≡ false → run_at (length room) (ahead_of old left) ≡ Err e)
+Fills old left new left_new buffer r = is_some old ≡ true → MatchResult r
+    (λ _. (run_at (length buffer) (ahead_of old left) ≡ Ok (buffer, ahead_of new left_new)) × (is_some new ≡ true))
+    (λ e. is_unforeseen e ≡ false → run_at (length buffer) (ahead_of old left) ≡ Err e)
 
 -- how often the device failed in a call that answered this fault
 abbrev pub failures_in : Stop → ℕ
@@ -91,7 +91,7 @@ failures_in _ = 0
 abbrev pub Counts : {X : Type 0} → ℕ → ℕ → Result X Stop → Type 0
 Counts old new r = CountsBy failures_in old new r
 
--- What a line that announces something owes, and how it is read in pieces.
+-- The shortest rest of a line that announces something, and how the line is read in pieces.
 
 -- with its line feed, the line has `least` bytes at least, and `longer` bytes at least where it begins with `kind`
 abbrev pub IsLong : ℕ → List ℕ → ℕ → List ℕ → Type 0
@@ -99,8 +99,9 @@ IsLong least kind longer line = (least ≤ length line + 1)
     × (starts_with nat_eq line kind ≡ true → longer ≤ length line + 1)
 
 -- a line that begins so and is that long has at least n bytes more, its line feed among them
-abbrev pub IsOwed : ℕ → List ℕ → ℕ → List ℕ → ℕ → Type 0
-IsOwed least kind longer prefix n = (rest : List ℕ) → IsLong least kind longer (prefix ++ rest) → n ≤ length rest + 1
+abbrev pub IsShortestRest : ℕ → List ℕ → ℕ → List ℕ → ℕ → Type 0
+IsShortestRest least kind longer prefix n =
+    (rest : List ℕ) → IsLong least kind longer (prefix ++ rest) → n ≤ length rest + 1
 
 -- The call gave the next line. Where that is so long, what follows the line is ahead now.
 abbrev pub GivesLongLine : ℕ → List ℕ → ℕ → Option (List ℕ) → ℕ → Option (List ℕ) → ℕ → Result (List ℕ) Stop → Type 0

@@ -18,7 +18,7 @@ use thiserror::Error;
 pub struct Failed;
 
 /// A reader that is lent to a call, and how often it has failed. The end is the last that is read of it: once the
-/// reader told its end, each call answers the end, and the reader isn't asked again.
+/// reader reported its end, each call answers the end, and the reader isn't asked again.
 ///
 /// Contracts see the bytes that are ahead, where these are known, the count of failures, and whether it is over. What
 /// was read beyond a line's end, where the input reads ahead, waits in a window, and comes before what the reader has
@@ -77,37 +77,37 @@ impl<R: Read> Input<R> {
         self.source.failures()
     }
 
-    /// Makes one read into the beginning of `room`, and answers how many bytes came. None come at the end of the input
-    /// alone, or where there is no room. A read that was interrupted is a failure. Where bytes wait that were read
+    /// Makes one read into the start of `buffer`, and answers how many bytes came. None come at the end of the input
+    /// alone, or where the buffer is empty. A read that was interrupted is a failure. Where bytes wait that were read
     /// ahead, these come, and no read is made; nor is one made after the end.
-    pub fn read_some(&mut self, room: &mut [u8]) -> Result<usize, Failed>
+    pub fn read_some(&mut self, buffer: &mut [u8]) -> Result<usize, Failed>
         requires { CanFail self.old }
-        ensures bound { ReadsAtMost result room.new }
-        ensures bytes { ReadConsumes self.old.bytes self.new.bytes result room.new }
+        ensures bound { ReadsAtMost result buffer.new }
+        ensures bytes { ReadConsumes self.old.bytes self.new.bytes result buffer.new }
         ensures ok { OnOk result (self.new.failures ≡ self.old.failures) }
         ensures err { OnErr result (self.new.failures ≡ self.old.failures + 1) }
-        ensures end { ReadsToEnd self.old self.new result room.new }
+        ensures end { ReadsToEnd self.old self.new result buffer.new }
     {
         if self.source.is_over() {
             return Ok(0);
         }
         if self.window.is_empty() {
-            self.source.read(room)
+            self.source.read(buffer)
         } else {
-            Ok(self.window.take(room))
+            Ok(self.window.take(buffer))
         }
     }
 
-    /// Gives some of the next bytes, at most as many as the room holds, and none after a line feed. Where no byte
+    /// Gives some of the next bytes, at most as many as the buffer holds, and none after a line feed. Where no byte
     /// waits, one read is made first, of up to 64 bytes, but none after the end.
-    pub(crate) fn read_to_feed(&mut self, room: &mut [u8]) -> Result<usize, Failed>
+    pub(crate) fn read_to_feed(&mut self, buffer: &mut [u8]) -> Result<usize, Failed>
         requires { CanFail self.old }
-        ensures bound { ReadsAtMost result room.new }
-        ensures bytes { ReadConsumes self.old.bytes self.new.bytes result room.new }
-        ensures feed { IfOk result (λ n. NoneAfterFeed (take n room.new)) }
+        ensures bound { ReadsAtMost result buffer.new }
+        ensures bytes { ReadConsumes self.old.bytes self.new.bytes result buffer.new }
+        ensures feed { IfOk result (λ n. NoneAfterFeed (take n buffer.new)) }
         ensures ok { OnOk result (self.new.failures ≡ self.old.failures) }
         ensures err { OnErr result (self.new.failures ≡ self.old.failures + 1) }
-        ensures end { 0 < length room.old → ReadsToEnd self.old self.new result room.new }
+        ensures end { 0 < length buffer.old → ReadsToEnd self.old self.new result buffer.new }
     {
         if self.source.is_over() {
             return Ok(0);
@@ -115,7 +115,7 @@ impl<R: Read> Input<R> {
         if self.window.is_empty() {
             self.window.fill(&mut self.source)?;
         }
-        Ok(self.window.take_to_feed(room))
+        Ok(self.window.take_to_feed(buffer))
     }
 
     /// Makes one read of one byte, where none waits that was read ahead; `None` at the end of the input, after which no
@@ -127,10 +127,10 @@ impl<R: Read> Input<R> {
         ensures err { OnErr result (self.new.failures ≡ self.old.failures + 1) }
         ensures end { ByteToEnd self.old self.new result }
     {
-        let mut room = [0];
-        if self.read_some(&mut room)? == 0 {
+        let mut buffer = [0];
+        if self.read_some(&mut buffer)? == 0 {
             return Ok(None);
         }
-        Ok(Some(room[0]))
+        Ok(Some(buffer[0]))
     }
 }

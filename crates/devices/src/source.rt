@@ -9,7 +9,7 @@ use crate::Failed;
 use std::io::Read;
 use std::marker::Model;
 
-/// A reader, how often it has failed, and whether it told its end. Nothing else of this crate holds the reader, and
+/// A reader, how often it has failed, and whether it reported its end. Nothing else of this crate holds the reader, and
 /// none of its reads comes after the end.
 #[derive(Drop)]
 pub(crate) struct Source<R: Read> {
@@ -44,7 +44,7 @@ impl<R: Read> Source<R> {
         self.failures
     }
 
-    /// Whether the reader told its end.
+    /// Whether the reader reported its end.
     pub(crate) fn is_over(&self) -> bool
         ensures { result ≡ self.now.over }
     {
@@ -52,18 +52,18 @@ impl<R: Read> Source<R> {
     }
 
     /// Makes one read.
-    pub(crate) fn read(&mut self, room: &mut [u8]) -> Result<usize, Failed>
+    pub(crate) fn read(&mut self, buffer: &mut [u8]) -> Result<usize, Failed>
         requires healthy { CanFail self.old }
         requires before_the_end { self.old.over ≡ false }
-        ensures bound { ReadsAtMost result room.new }
-        ensures bytes { ReadConsumes self.old.bytes self.new.bytes result room.new }
+        ensures bound { ReadsAtMost result buffer.new }
+        ensures bytes { ReadConsumes self.old.bytes self.new.bytes result buffer.new }
         ensures ok { OnOk result (self.new.failures ≡ self.old.failures) }
         ensures err { OnErr result (self.new.failures ≡ self.old.failures + 1) }
-        ensures end { ReadsToEnd self.old self.new result room.new }
+        ensures end { ReadsToEnd self.old self.new result buffer.new }
     {
-        match self.reader.read(room) {
+        match self.reader.read(buffer) {
             Ok(count) => {
-                self.over = count == 0 && !room.is_empty();
+                self.over = count == 0 && !buffer.is_empty();
                 Ok(count)
             }
             Err(_) => {

@@ -120,11 +120,11 @@ fn look_further<R: Read>(input: &mut Input<R>) -> Stop
 pub(crate) fn read_some_of<R: Read>(
     input: &mut Input<R>,
     left: &mut usize,
-    room: &mut [u8],
+    buffer: &mut [u8],
 ) -> Result<usize, Stop>
     requires healthy { CanFail input.old }
-    requires room { 0 < length room.old }
-    ensures some { TakesSome input.old.bytes left.old input.new.bytes left.new room.new result }
+    requires buffer { 0 < length buffer.old }
+    ensures some { TakesSome input.old.bytes left.old input.new.bytes left.new buffer.new result }
     // A read that failed took nothing.
     ensures part { FailsAtOnce Stop.Read input.old.bytes left.old input.new.bytes left.new result }
     ensures count { Counts input.old.failures input.new.failures result }
@@ -136,8 +136,8 @@ pub(crate) fn read_some_of<R: Read>(
     if *left == 0 {
         return Err(look_further(input));
     }
-    let want = room.len().min(*left);
-    match input.read_some(&mut room[..want]) {
+    let want = buffer.len().min(*left);
+    match input.read_some(&mut buffer[..want]) {
         Ok(0) => Err(Stop::Cut),
         Ok(count) => {
             *left -= count;
@@ -152,12 +152,12 @@ pub(crate) fn read_some_of<R: Read>(
 fn read_to_feed_of<R: Read>(
     input: &mut Input<R>,
     left: &mut usize,
-    room: &mut [u8],
+    buffer: &mut [u8],
 ) -> Result<usize, Stop>
     requires healthy { CanFail input.old }
-    requires room { 0 < length room.old }
-    ensures some { TakesSome input.old.bytes left.old input.new.bytes left.new room.new result }
-    ensures feed { IfOk result (λ n. NoneAfterFeed (take n room.new)) }
+    requires buffer { 0 < length buffer.old }
+    ensures some { TakesSome input.old.bytes left.old input.new.bytes left.new buffer.new result }
+    ensures feed { IfOk result (λ n. NoneAfterFeed (take n buffer.new)) }
     // A read that failed took nothing.
     ensures part { FailsAtOnce Stop.Read input.old.bytes left.old input.new.bytes left.new result }
     ensures count { Counts input.old.failures input.new.failures result }
@@ -169,8 +169,8 @@ fn read_to_feed_of<R: Read>(
     if *left == 0 {
         return Err(look_further(input));
     }
-    let most = room.len().min(*left);
-    match input.read_to_feed(&mut room[..most]) {
+    let most = buffer.len().min(*left);
+    match input.read_to_feed(&mut buffer[..most]) {
         Ok(0) => Err(Stop::Cut),
         Ok(came) => {
             *left -= came;
@@ -184,11 +184,11 @@ fn read_to_feed_of<R: Read>(
 fn read_next_of<R: Read>(
     input: &mut Input<R>,
     left: &mut usize,
-    room: &mut [u8],
+    buffer: &mut [u8],
 ) -> Result<usize, Stop>
     requires healthy { CanFail input.old }
-    requires room { 0 < length room.old }
-    ensures some { TakesSome input.old.bytes left.old input.new.bytes left.new room.new result }
+    requires buffer { 0 < length buffer.old }
+    ensures some { TakesSome input.old.bytes left.old input.new.bytes left.new buffer.new result }
     // A read that failed took nothing.
     ensures part { FailsAtOnce Stop.Read input.old.bytes left.old input.new.bytes left.new result }
     ensures count { Counts input.old.failures input.new.failures result }
@@ -198,9 +198,9 @@ fn read_next_of<R: Read>(
     ensures most { IfErr result (λ _. TookAtMost 1 input.old.bytes input.new.bytes) }
 {
     if input.reads_ahead() {
-        read_to_feed_of(input, left, room)
+        read_to_feed_of(input, left, buffer)
     } else {
-        read_some_of(input, left, room)
+        read_some_of(input, left, buffer)
     }
 }
 
@@ -217,9 +217,9 @@ pub fn read_byte_of<R: Read>(input: &mut Input<R>, left: &mut usize) -> Result<u
     // At most one byte was taken.
     ensures most { TookAtMost 1 input.old.bytes input.new.bytes }
 {
-    let mut room = [0];
-    match read_next_of(input, left, &mut room) {
-        Ok(_) => Ok(room[0]),
+    let mut buffer = [0];
+    match read_next_of(input, left, &mut buffer) {
+        Ok(_) => Ok(buffer[0]),
         Err(stop) => Err(stop),
     }
 }
@@ -282,23 +282,23 @@ pub(crate) fn read_line_ahead<R: Read>(input: &mut Input<R>, left: &mut usize) -
     Err(Stop::TooLong)
 }
 
-/// Fills the room with the next bytes of a text that may take `left` more bytes.
-fn fill<R: Read>(input: &mut Input<R>, left: &mut usize, room: &mut [u8]) -> Result<(), Stop>
+/// Fills the buffer with the next bytes of a text that may take `left` more bytes.
+fn fill<R: Read>(input: &mut Input<R>, left: &mut usize, buffer: &mut [u8]) -> Result<(), Stop>
     requires { CanFail input.old }
-    ensures run { Fills input.old.bytes left.old input.new.bytes left.new room.new result }
+    ensures run { Fills input.old.bytes left.old input.new.bytes left.new buffer.new result }
     // Where a read failed, no whole run had been taken.
-    ensures part { FailsWithin Stop.Read Stop.Cut (run_at (length room.new))
+    ensures part { FailsWithin Stop.Read Stop.Cut (run_at (length buffer.new))
         input.old.bytes left.old input.new.bytes left.new result }
     ensures count { Counts input.old.failures input.new.failures result }
     // It takes no memory.
     ensures memory { IfErr result (λ e. e ≢ Stop.Memory) }
     // At most so many bytes were taken, and one byte past the limit.
-    ensures most { TookAtMost (min (length room.new) (left.old + 1))
+    ensures most { TookAtMost (min (length buffer.new) (left.old + 1))
         input.old.bytes input.new.bytes }
 {
     let mut filled = 0;
-    while filled < room.len() {
-        match read_some_of(input, left, &mut room[filled..]) {
+    while filled < buffer.len() {
+        match read_some_of(input, left, &mut buffer[filled..]) {
             Ok(more) => filled += more,
             Err(stop) => return Err(stop),
         }
@@ -306,7 +306,7 @@ fn fill<R: Read>(input: &mut Input<R>, left: &mut usize, room: &mut [u8]) -> Res
     Ok(())
 }
 
-/// Reads the next `count` bytes of a text that may take `left` more bytes. The room is made before the first read.
+/// Reads the next `count` bytes of a text that may take `left` more bytes. The buffer is made before the first read.
 pub fn read_run<R: Read>(
     alloc: Global,
     input: &mut Input<R>,

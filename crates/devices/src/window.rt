@@ -94,37 +94,37 @@ impl Window {
     }
 
     /// Gives the first bytes that wait.
-    fn give(&mut self, count: usize, room: &mut [u8])
+    fn give(&mut self, count: usize, buffer: &mut [u8])
         requires waiting { count ≤ length self.old }
-        requires room { count ≤ length room.old }
-        ensures { self.old ≡ take count room.new ++ self.new }
+        requires buffer { count ≤ length buffer.old }
+        ensures { self.old ≡ take count buffer.new ++ self.new }
     {
-        room[..count].copy_from_slice(&self.bytes[self.start..self.start + count]);
+        buffer[..count].copy_from_slice(&self.bytes[self.start..self.start + count]);
         self.start += count;
     }
 
-    /// Gives bytes that wait, as many as the room holds.
-    pub(crate) fn take(&mut self, room: &mut [u8]) -> usize
-        ensures bound { result ≤ length room.new }
-        ensures bytes { self.old ≡ take result room.new ++ self.new }
-        ensures some { 0 < length self.old → 0 < length room.new → 0 < result }
+    /// Gives bytes that wait, as many as the buffer holds.
+    pub(crate) fn take(&mut self, buffer: &mut [u8]) -> usize
+        ensures bound { result ≤ length buffer.new }
+        ensures bytes { self.old ≡ take result buffer.new ++ self.new }
+        ensures some { 0 < length self.old → 0 < length buffer.new → 0 < result }
     {
-        let count = room.len().min(self.as_slice().len());
-        self.give(count, room);
+        let count = buffer.len().min(self.as_slice().len());
+        self.give(count, buffer);
         count
     }
 
-    /// Gives bytes that wait, as many as the room holds, and none after a line feed.
-    pub(crate) fn take_to_feed(&mut self, room: &mut [u8]) -> usize
-        ensures bound { result ≤ length room.new }
-        ensures bytes { self.old ≡ take result room.new ++ self.new }
-        ensures some { 0 < length self.old → 0 < length room.new → 0 < result }
-        ensures feed { NoneAfterFeed (take result room.new) }
+    /// Gives bytes that wait, as many as the buffer holds, and none after a line feed.
+    pub(crate) fn take_to_feed(&mut self, buffer: &mut [u8]) -> usize
+        ensures bound { result ≤ length buffer.new }
+        ensures bytes { self.old ≡ take result buffer.new ++ self.new }
+        ensures some { 0 < length self.old → 0 < length buffer.new → 0 < result }
+        ensures feed { NoneAfterFeed (take result buffer.new) }
     {
         let waiting = self.as_slice();
-        let most = room.len().min(waiting.len());
+        let most = buffer.len().min(waiting.len());
         let count = to_feed(&waiting[..most]);
-        self.give(count, room);
+        self.give(count, buffer);
         count
     }
 }

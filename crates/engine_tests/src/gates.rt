@@ -401,7 +401,7 @@ struct Records<'a> {
 }
 
 impl<'a> Read for Records<'a> {
-    fn read(&mut self, room: &mut [u8]) -> io::Result<usize> {
+    fn read(&mut self, capacity: &mut [u8]) -> io::Result<usize> {
         if self.left == 0 && !self.sizes.is_empty() {
             self.left = self.sizes[0];
             self.sizes = &self.sizes[1..];
@@ -410,8 +410,8 @@ impl<'a> Read for Records<'a> {
                 self.at_last.store(written, Ordering::SeqCst);
             }
         }
-        let count = room.len().min(self.left).min(self.bytes.len());
-        room[..count].copy_from_slice(&self.bytes[..count]);
+        let count = capacity.len().min(self.left).min(self.bytes.len());
+        capacity[..count].copy_from_slice(&self.bytes[..count]);
         self.bytes = &self.bytes[count..];
         self.left -= count;
         Ok(count)

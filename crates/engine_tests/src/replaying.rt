@@ -73,8 +73,8 @@ pub fn fault_of(ran: &Ran) -> Option<ReplayFault> {
     }
 }
 
-/// How the staged engine runs: its cuts, the workers and the room of each stage, the pieces of a batch, and the bytes
-/// of the cache.
+/// How the staged engine runs: its cuts, the workers and the capacity of each stage, the pieces of a batch, and the
+/// bytes of the cache.
 #[derive(Clone, Copy)]
 pub struct Shape<'a> {
     pub front: &'a [usize],
@@ -95,7 +95,7 @@ pub static DEFAULT_SHAPE: Shape<'static> = Shape {
     cache: 67_108_864,
 };
 
-/// The plan of these cuts, each stage with n workers and so much room.
+/// The plan of these cuts, each stage with n workers and so much capacity.
 fn plan_of(alloc: Global, cuts: &[usize], workers: usize, capacity: usize) -> Option<Plan> {
     let stages = cuts.len().min(3);
     Plan::new(
@@ -199,7 +199,7 @@ pub fn run_devices<G: Gate + Sync, T: Threads + Wait + Sync, R: Read, W: Write>(
     }
 }
 
-/// The room of a text in memory, in bytes.
+/// The capacity of a text in memory, in bytes.
 pub const TEXT_ROOM: usize = 4096;
 
 /// Replays a capture against a snapshot, both as texts.

@@ -116,9 +116,9 @@ fn what_was_read_ahead_comes_next(rt: HostRuntime) {
     let byte = read_byte_of(&mut input, &mut left);
     let line = read_line(&mut input, &mut left).is_ok();
     assert!(rt; (long, byte, line, left) == (true, Ok(b'a'), true, 91));
-    let mut room = [0; 8];
-    let came = input.read_some(&mut room).unwrap_or(0);
-    assert!(rt; &room[..came] == b"rest".as_slice());
+    let mut capacity = [0; 8];
+    let came = input.read_some(&mut capacity).unwrap_or(0);
+    assert!(rt; &capacity[..came] == b"rest".as_slice());
 }
 
 /// A text, how many bytes of it may be taken, the length of a run, and how many bytes may be taken then.

@@ -46,15 +46,15 @@ struct Resuming {
 }
 
 impl Read for Resuming {
-    fn read(&mut self, room: &mut [u8]) -> io::Result<usize> {
+    fn read(&mut self, capacity: &mut [u8]) -> io::Result<usize> {
         self.calls = self.calls.wrapping_add(1);
         if self.left.is_empty() && !self.ended {
             self.ended = true;
             self.left = b"cd\n";
             return Ok(0);
         }
-        let count = room.len().min(self.left.len());
-        room[..count].copy_from_slice(&self.left[..count]);
+        let count = capacity.len().min(self.left.len());
+        capacity[..count].copy_from_slice(&self.left[..count]);
         self.left = &self.left[count..];
         Ok(count)
     }
@@ -65,12 +65,12 @@ impl Read for Resuming {
 fn four_reads() -> (bool, usize) {
     let mut device = Flaky::new(b"abc", 2, 1);
     let mut input = Input::new(&mut device);
-    let mut room = [0; 4];
-    let some = (input.read_some(&mut room), room, input.failures());
-    let failed = (input.read_some(&mut room), input.failures());
-    let last = (input.read_some(&mut room), room, input.failures());
+    let mut capacity = [0; 4];
+    let some = (input.read_some(&mut capacity), capacity, input.failures());
+    let failed = (input.read_some(&mut capacity), input.failures());
+    let last = (input.read_some(&mut capacity), capacity, input.failures());
     let end = (
-        input.read_some(&mut room),
+        input.read_some(&mut capacity),
         input.read_byte(),
         input.failures(),
     );
@@ -124,8 +124,8 @@ fn reads_at_the_end(rt: &impl Abort, ahead: bool) -> (bool, usize) {
     let third = read_line(&mut input, &mut left).err();
     assert!(rt; input.failures() == 0);
     let byte = (read_byte_of(&mut input, &mut left), input.read_byte());
-    let mut room = [7; 2];
-    let some = (input.read_some(&mut room), room, input.failures());
+    let mut capacity = [7; 2];
+    let some = (input.read_some(&mut capacity), capacity, input.failures());
     drop(input);
     let are_right = first
         && (second, third) == (Some(Stop::Cut), Some(Stop::Cut))
@@ -134,7 +134,7 @@ fn reads_at_the_end(rt: &impl Abort, ahead: bool) -> (bool, usize) {
     (are_right, device.calls)
 }
 
-/// Once the end was told nothing is read, whether the input reads ahead or not.
+/// Once the end was reported nothing is read, whether the input reads ahead or not.
 #[test]
 fn nothing_read_after_the_end(rt: HostRuntime) {
     for (ahead, reads) in [(false, 4), (true, 2)] {
@@ -175,7 +175,7 @@ fn reads_of_a_text_of_lines(rt: HostRuntime) {
     }
 }
 
-/// What a line owes is read at once: 7 bytes, 5 more of a piece's line, and then one at a time.
+/// The shortest rest of a line is read at once: 7 bytes, 5 more of a piece's line, and then one at a time.
 #[test]
 fn reads_of_a_line_that_announces(rt: HostRuntime) {
     for (text, reads) in [
@@ -192,7 +192,7 @@ fn reads_of_a_line_that_announces(rt: HostRuntime) {
     }
 }
 
-/// A read into no room isn't the end.
+/// A read into an empty buffer isn't the end.
 #[test]
 fn no_room_is_no_end(rt: HostRuntime) {
     let mut device = Flaky::new(b"a", 9, 9);

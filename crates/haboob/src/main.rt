@@ -43,8 +43,8 @@ fn arguments_of(rt: &HostRuntime) -> Result<Vec<String>, Fault> {
     }
 }
 
-/// What is told of words that aren't taken: what the command says of them as a line shows them. They aren't taken so
-/// either, since a character that is shown as another stands in no word of the command.
+/// What is reported of words that aren't taken: what the command says of them as a line shows them. They aren't taken
+/// so either, since a character that is shown as another stands in no word of the command.
 fn reported_of_words(
     alloc: Global,
     words: &[String],

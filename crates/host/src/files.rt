@@ -116,8 +116,8 @@ pub fn slim_named(
     ran.map_err(|fault| with_looks(rt, fault, None, name))
 }
 
-/// How many of the names that are left out are told, each in a line. Of the others there is the count alone.
-const MOST_TOLD: usize = 100;
+/// How many of the names that are left out are listed, each in a line. Of the others there is the count alone.
+const MAX_REPORTED: usize = 100;
 
 /// Tells of what was left out, and how many that is. Where standard error can't be written, the snapshot stands all the
 /// same.
@@ -131,7 +131,7 @@ fn tell_left_out(
         let Some(fault) = why else {
             continue;
         };
-        if skipped < MOST_TOLD {
+        if skipped < MAX_REPORTED {
             let named = FolderFault::new(rt.alloc(), one.name.as_str(), *fault)?;
             let _ = Fault::Folder(named).write_line(&mut Output::new(rt.stderr()));
         }

@@ -40,7 +40,7 @@ fn has(text: &[u8], part: &[u8]) -> bool
     text.windows(part.len()).any(|window| window == part)
 }
 
-/// What a file that begins with these bytes looks like, and what to do with it, where that can be told and is not what
+/// What a file that begins with these bytes looks like, and what to do with it, where that can be seen and is not what
 /// it is to be.
 fn look_of(place: Place, bytes: &[u8]) -> Option<&'static str> {
     if bytes.is_empty() {

@@ -59,7 +59,7 @@ fn is_unchanged(before: &Metadata, after: &Metadata) -> bool {
         && before.ctime_nsec() == after.ctime_nsec()
 }
 
-/// The bytes of an open file, up to the first that is too many. They are what the system tells of it: it has so many
+/// The bytes of an open file, up to the first that is too many. They are what the system says of it: it has so many
 /// bytes, and wasn't changed while they were read. A time before 1970 is reported as 0.
 fn contents_of(rt: &HostRuntime, file: &File) -> Result<Contents, Unread> {
     let before = file.metadata()?;

@@ -132,10 +132,10 @@ impl<'a> Source<'a> {
 }
 
 impl<'a> Read for Source<'a> {
-    fn read(&mut self, room: &mut [u8]) -> io::Result<usize> {
+    fn read(&mut self, buffer: &mut [u8]) -> io::Result<usize> {
         let count = match &mut self.opened {
-            Opened::File(file) => file.read(room)?,
-            Opened::Standard(input) => input.read(room)?,
+            Opened::File(file) => file.read(buffer)?,
+            Opened::Standard(input) => input.read(buffer)?,
         };
         if let Some(progress) = &mut self.progress {
             progress.note(self.rt, count);

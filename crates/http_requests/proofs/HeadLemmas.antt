@@ -14,7 +14,7 @@ use Rattle.httparse.specs.declared.spans.Span.{Span}
 use Rattle.httparse.specs.Spans.{header_bytes, span_bytes, IsWithin}
 use Rattle.http_requests.specs.declared.heads.Lines.{Lines}
 use Rattle.http_requests.specs.declared.heads.Lines.TheVariants.{Absent, Once, Repeated}
-use Rattle.http_requests.specs.Reference.{FieldLine, same_text, values_of, is_given, options_of, has_option}
+use Rattle.http_requests.specs.Reference.{FieldLine, same_text, values_of, is_present, options_of, has_option}
 use Rattle.http_requests.specs.Lines.{AreLines, and_if, is_there}
 
 -- the field lines at these places of a block
@@ -172,7 +172,7 @@ noted_more name block headers i text lines after b h within is are named and_is 
     (lines_and block (values_of name (lines_from block (take i headers))) lines _ (get_or headers i no_header).value are within)
 
 -- whether there is a line
-pub there : (block : List ℕ) (values : List (List ℕ)) (lines : Lines) → AreLines block values lines → is_given values ≡ is_there lines
+pub there : (block : List ℕ) (values : List (List ℕ)) (lines : Lines) → AreLines block values lines → is_present values ≡ is_there lines
 there block values Absent are = rw are refl
 there block values (Once span) are = rw are.1 refl
 there block [] Repeated are = absurd (omega (arith, are))

@@ -31,13 +31,13 @@ pub judge_head : (block : List ℕ) (headers : List HeaderSpan) (r : RequestSpan
     → r.len ≡ length block → length headers ≡ 64
     → PartsSay (span_bytes block r.method) (span_bytes block r.path) r.version (lines_from block (take r.headers headers)) v → IsVerdict block v
 unfolding IsVerdict
-judge_head block headers r v w of whole room says =
+judge_head block headers r v w of whole capacity says =
     let h = of.0 in
     let a = of.1 in
     let n = field_count block headers r h w a in
     let f = w.section.count_fits in
     let none : drop r.len block ≡ [] = drop_of_length-le block {i = r.len} (omega (arith, whole)) in
-    inl (h, (rw none at a.reads, omega (arith, n, f, room)), parts_head block headers r h v a says)
+    inl (h, (rw none at a.reads, omega (arith, n, f, capacity)), parts_head block headers r h v a says)
 
 pub judge_other : (block : List ℕ) (headers : List HeaderSpan) (r : RequestSpans) → IsRequestWithin block headers r → IsRequestOf block headers r
     → (r.len ≡ length block → ⊥) → IsVerdict block (bad Block)

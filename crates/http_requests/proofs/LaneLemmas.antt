@@ -28,9 +28,9 @@ marks_byte byte bit is = elim (cases_Bool (eqb byte 10)) [
 
 -- the marks of the line feeds
 pub marks_feeds : (s : List ℕ) (at : ℕ) → at + 64 ≤ length s → MarksFeeds s at (mask_l (map (top 7) (compared (chunk at 64 s))) % 2 ^ 64)
-marks_feeds s at room =
+marks_feeds s at capacity =
     let v = chunk at 64 s in
-    let long : length v ≡ 64 = length-chunk at 64 s room in
+    let long : length v ≡ 64 = length-chunk at 64 s capacity in
     let wide : length (compared v) ≡ 64 = long_compared v long in
     let tops = map (top 7) (compared v) in
     let count : length tops ≡ 64 = length-map (compared v) (top 7) ∙ wide in

@@ -24,11 +24,11 @@ piece_step (p ∷ ps) (suc i) d h = let e : suc i + 1 ≡ suc (i + 1) = omega ar
 
 pub piece_room : (ps : List (Bor (List ℕ))) (i read : ℕ) (d : Bor (List ℕ)) → i < length ps → read ≡ length (joined (take i (map (λ piece. piece.now) ps)))
     → length (joined (map (λ piece. piece.now) ps)) ≤ 1_125_899_906_842_624 → read + length (get_or ps i d).now ≤ 1_125_899_906_842_624
-piece_room ps i read d h e room =
+piece_room ps i read d h e capacity =
     let s = ap length (piece_step ps i d h) in
     let a = length-append (joined (take i (map (λ piece. piece.now) ps))) (get_or ps i d).now in
     let r = joined_room (map (λ piece. piece.now) ps) (i + 1) in
-    omega (arith, s, a, r, e, room)
+    omega (arith, s, a, r, e, capacity)
 
 pub fed_fits : (past piece : List ℕ) (after : Progress) (old new : List Message) → Fed past old after piece old new → CutterAfter (past ++ piece) new after
 fed_fits past piece after old new f = rw f.appended f.fits

@@ -9,7 +9,7 @@ use Rattle.http_requests.specs.declared.messages.MessageFault.{MessageFault}
 use Rattle.http_requests.specs.declared.messages.Meaning.{Meaning}
 use Rattle.http_requests.specs.declared.messages.Meaning.TheVariants.{Request}
 use Rattle.http_requests.specs.declared.heads.Verdict.{Verdict}
-use Rattle.http_requests.specs.Reference.{FieldLine, lines_of, values_of, IsSecondOf, IsOnlySecond, IsModifiedSince, IsRequest, bad, head_fault, is_get_or_head, is_given, IsVerdict, version_of, is_closing}
+use Rattle.http_requests.specs.Reference.{FieldLine, lines_of, values_of, IsSecondOf, IsOnlySecond, IsModifiedSince, IsRequest, bad, head_fault, is_get_or_head, is_present, IsVerdict, version_of, is_closing}
 use Rattle.http_requests.specs.Lines.{HeadSays}
 
 -- a text shows one second, or none
@@ -31,7 +31,7 @@ counted_unique true values s t g h = only_unique values s t g h
 counted_unique false values s t g h = g ∙ sym h
 
 since_unique : (method : List ℕ) (lines : List FieldLine) (s t : Option ℕ) → IsModifiedSince method lines s → IsModifiedSince method lines t → s ≡ t
-since_unique method lines s t g h = counted_unique (is_get_or_head method && not (is_given (values_of (codes "if-none-match") lines))) (values_of (codes "if-modified-since") lines) s t g h
+since_unique method lines s t g h = counted_unique (is_get_or_head method && not (is_present (values_of (codes "if-none-match") lines))) (values_of (codes "if-modified-since") lines) s t g h
 
 same_verdict : (v w : Verdict) → v.what ≡ w.what → v.length ≡ w.length → v ≡ w
 same_verdict v w h k = let mk : Meaning → ℕ → Verdict = λ what n. record { what = what; length = n } in ap (λ what. mk what v.length) h ∙ ap (λ n. mk w.what n) k

@@ -73,9 +73,9 @@ is_host_fault minor (value ∷ []) = not (list_all is_host_byte value)
 is_host_fault minor (value ∷ other ∷ values) = true
 
 -- there is such a line
-abbrev pub is_given : List (List ℕ) → Bool
-is_given [] = false
-is_given (value ∷ values) = true
+abbrev pub is_present : List (List ℕ) → Bool
+is_present [] = false
+is_present (value ∷ values) = true
 
 -- one digit or more, and nothing else (RFC 9110, 8.6)
 abbrev pub is_numeral : List ℕ → Bool
@@ -98,7 +98,7 @@ body_length (value ∷ values) = digits_value 10 value
 abbrev pub head_fault : ℕ → List FieldLine → Option MessageFault
 head_fault minor lines =
     if is_host_fault minor (values_of (codes "host") lines) then Some Host
-    else (if is_given (values_of (codes "transfer-encoding") lines) then Some Coding
+    else (if is_present (values_of (codes "transfer-encoding") lines) then Some Coding
     else (if is_length_fault (values_of (codes "content-length") lines) then Some Length
     else (if nat_lt max_body_bytes (body_length (values_of (codes "content-length") lines)) then Some BodySize
     else None)))
@@ -139,7 +139,7 @@ is_get_or_head method = bytes_eq method (codes "GET") || bytes_eq method (codes 
 -- methods alone, and not beside If-None-Match (RFC 9110, 13.1.3)
 abbrev pub IsModifiedSince : List ℕ → List FieldLine → Option ℕ → Type 0
 IsModifiedSince method lines since =
-    MatchBool (is_get_or_head method && not (is_given (values_of (codes "if-none-match") lines)))
+    MatchBool (is_get_or_head method && not (is_present (values_of (codes "if-none-match") lines)))
     (IsOnlySecond (values_of (codes "if-modified-since") lines) since)
     (since ≡ None)
 

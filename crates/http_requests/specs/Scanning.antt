@@ -1,4 +1,4 @@
--- What stands at the start of a text, and where a block ends, told by the last bytes before that place.
+-- What stands at the start of a text, and where a block ends, by the last bytes before that place.
 use Rattle.std.specs.Prelude.{◌≡◌, ◌↔◌, ℕ, ◌+◌, ◌<◌, ◌≤◌, List, length, drop, slice_index, ◌-◌, ◌==◌, ◌&&◌, ◌||◌}
 use Rattle.std.specs.Prelude.{Bool, nat_le}
 use Rattle.std.specs.Int.{bit_at}

@@ -202,7 +202,7 @@ impl State {
     fn cut(&mut self, text: &[u8], out: &mut Vec<Message>) -> Result<usize, AllocError>
         requires sound { IsSound (progress self.old) }
         requires some { 0 < length text.now }
-        requires room { self.old.read + length text.now ≤ max_text_bytes }
+        requires capacity { self.old.read + length text.now ≤ max_text_bytes }
         ensures ok { IfOk result
             (Took (progress self.old) text.now (progress self.new) out.old.items out.new.items) }
         ensures out { OnErr result (out.new.items ≡ out.old.items) }
@@ -239,7 +239,7 @@ impl State {
     /// Takes a piece of the text.
     fn feed(&mut self, piece: &[u8], out: &mut Vec<Message>) -> Result<(), AllocError>
         requires sound { IsSound (progress self.old) }
-        requires room { self.old.read + length piece.now ≤ max_text_bytes }
+        requires capacity { self.old.read + length piece.now ≤ max_text_bytes }
         ensures ok { OnOk result ((past : List ℕ) (sofar : List AMessage)
             → CutterAfter past sofar (progress self.old)
             → Fed past sofar (progress self.new) piece.now out.old.items out.new.items) }

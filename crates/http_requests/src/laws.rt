@@ -11,7 +11,7 @@ use crate::cutting::Cutter;
 use crate::messages::Message;
 use std::alloc::{AllocError, Global};
 
-/// Where a block ends is told by the last three bytes before that place: LF LF or LF CR LF.
+/// Where a block ends is decided by the last three bytes before that place: LF LF or LF CR LF.
 pub fn block_ends()
     ensures { (s : List ℕ) (e : ℕ) → (EndsAt s e → IsTrue (ends_at s e))
         × (IsTrue (ends_at s e) → EndsAt s e) }

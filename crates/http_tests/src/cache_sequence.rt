@@ -60,11 +60,11 @@ fn bring(list: &mut Vec<usize>, file: usize) -> Result<bool, AllocError> {
 fn put(alloc: Global, list: &[usize], file: usize, limit: usize) -> Result<Vec<usize>, AllocError> {
     let mut new = Vec::new(alloc);
     new.push(file)?;
-    let mut room = limit.saturating_sub(size_of(file));
+    let mut capacity = limit.saturating_sub(size_of(file));
     for other in list {
-        match room.checked_sub(size_of(*other)) {
+        match capacity.checked_sub(size_of(*other)) {
             Some(rest) => {
-                room = rest;
+                capacity = rest;
                 new.push(*other)?;
             }
             None => return Ok(new),

@@ -1,6 +1,6 @@
 //! Out of memory: `checks/refuse_growths.py` refuses each growth in turn.
 use devices::{Bytes, Output};
-use responses::{Given, Persistence, Slip, Status, render, write_reply};
+use responses::{Persistence, ResponseKind, Slip, Status, render, write_reply};
 use std::marker::Brand;
 
 static BUSY: &[u8] = b"reply 1 2 178\n\
@@ -38,19 +38,19 @@ fn each_growth_refused(rt: HostRuntime) {
         date: 253_402_300_799,
         head: false,
         link: Persistence::Close,
-        what: Given::<Brand>::Plain {
+        what: ResponseKind::<Brand>::Plain {
             status: Status::ServiceUnavailable { retry_after: 1 },
         },
     };
     if let Ok(reply) = render(rt.alloc(), slip) {
-        let mut room = [0; 256];
-        let mut output = Output::new(room.as_mut_slice());
+        let mut capacity = [0; 256];
+        let mut output = Output::new(capacity.as_mut_slice());
         assert!(rt; write_reply(&mut output, &reply).is_ok());
-        assert!(rt; room.starts_with(BUSY));
+        assert!(rt; capacity.starts_with(BUSY));
     }
 }
 
-/// The same where the head outgrows its room.
+/// The same where the head outgrows its buffer.
 #[test]
 fn long_head(rt: HostRuntime) {
     let Ok(location) = Vec::from_slice(rt.alloc(), LONG) else {
@@ -62,14 +62,14 @@ fn long_head(rt: HostRuntime) {
         date: 784_111_777,
         head: false,
         link: Persistence::Silent,
-        what: Given::<Brand>::Moved {
+        what: ResponseKind::<Brand>::Moved {
             location: Bytes::from_vec(location),
         },
     };
     if let Ok(reply) = render(rt.alloc(), slip) {
-        let mut room = [0; 512];
-        let mut output = Output::new(room.as_mut_slice());
+        let mut capacity = [0; 512];
+        let mut output = Output::new(capacity.as_mut_slice());
         assert!(rt; write_reply(&mut output, &reply).is_ok());
-        assert!(rt; room.starts_with(MOVED));
+        assert!(rt; capacity.starts_with(MOVED));
     }
 }

@@ -77,7 +77,7 @@ pub fn is_like(message: &Message, want: &Want) -> bool {
 /// and added nothing.
 fn feed(alloc: Global, text: &[u8], size: usize, out: &mut Vec<Message>) -> (bool, bool)
     requires some { 0 < size }
-    requires room { length text.now ≤ 1_073_741_824 }
+    requires capacity { length text.now ≤ 1_073_741_824 }
 {
     let mut cutter = Cutter::new(alloc);
     let mut failed = false;

@@ -1,7 +1,7 @@
 //! A writer that takes a byte at a time, and one that fails at one of its writes.
 use devices::Output;
 use paths::Tree;
-use responses::{Given, Persistence, Reply, Slip, Status, render, write_reply};
+use responses::{Persistence, Reply, ResponseKind, Slip, Status, render, write_reply};
 use std::alloc::AllocGlobal;
 use std::marker::Brand;
 use std::process::Abort;
@@ -40,7 +40,7 @@ fn each_write_failing(rt: HostRuntime) -> Result<(), Fail> {
         date: 0,
         head: false,
         link: Persistence::Silent,
-        what: Given::<Brand>::Plain {
+        what: ResponseKind::<Brand>::Plain {
             status: Status::NotFound,
         },
     };

@@ -17,7 +17,7 @@ use Rattle.captures.specs.Captures.{size_of, sizes_of}
 use Rattle.http_requests.specs.declared.messages.Message.{Message}
 use Rattle.http_requests.specs.Cutting.{EndBetween}
 use Rattle.arrivals.specs.Reference.{Arrival, AreArrivals}
-use Rattle.arrivals.specs.Connections.{HasRead, HasRoom, ReadMore, HaveNumbers, IsNumber, connection_at, arrivals_with, text_now, messages_now}
+use Rattle.arrivals.specs.Connections.{HasRead, HasCapacity, ReadMore, HaveNumbers, IsNumber, connection_at, arrivals_with, text_now, messages_now}
 use Rattle.arrivals.specs.Batches.{Stand, origin_now}
 use Rattle.arrivals.specs.declared.connections.Connection.{Connection}
 use Rattle.arrivals.specs.declared.connections.Connection.TheVariants.{Silent}
@@ -33,13 +33,13 @@ use Rattle.inspection.proofs.Named.{now_below, text_piece_own, text_piece_other,
 use Rattle.inspection.proofs.Ended.{shares_piece, shares_end, shares_tier}
 use Rattle.inspection.proofs.OpenNow.{open_none, open_piece, open_end, open_tier, open_counted, few_open}
 
--- ---- the room of a record
+-- ---- the capacity for a record
 
 pub has_room : (records : List Record) (arrivals : List Arrival) (connections : List Connection) (f : Found) (c n : ℕ) → IsNumber c
-    → Holds records arrivals connections f → sizes_of records + n ≤ longest_text → HasRoom (connection_at connections c) n
-has_room records arrivals connections f c n low holds room =
+    → Holds records arrivals connections f → sizes_of records + n ≤ longest_text → HasCapacity (connection_at connections c) n
+has_room records arrivals connections f c n low holds capacity =
     let below = now_below c records in
-    room_of (connection_at connections c) (text_now c records) (messages_now c records arrivals) n (holds.reads.each c low) (omega (arith, below, room))
+    room_of (connection_at connections c) (text_now c records) (messages_now c records arrivals) n (holds.reads.each c low) (omega (arith, below, capacity))
 
 -- how many bytes came on the connection that a number names
 pub tail_bytes : (records : List Record) (arrivals : List Arrival) (f : Found) (c : ℕ) → IsNumber c → IsFound records arrivals f → (tail_at f.tails c).bytes ≡ length (text_now c records)
@@ -47,7 +47,7 @@ tail_bytes records arrivals f c low is = ap (λ t. t.bytes) (is.tails.each c low
 
 pub tail_room : (records : List Record) (arrivals : List Arrival) (f : Found) (c n : ℕ) → IsNumber c
     → IsFound records arrivals f → sizes_of records + n ≤ longest_text → (tail_at f.tails c).bytes + n < 2 ^ 64
-tail_room records arrivals f c n low is room = omega (arith, now_below c records, room, tail_bytes records arrivals f c low is)
+tail_room records arrivals f c n low is capacity = omega (arith, now_below c records, capacity, tail_bytes records arrivals f c low is)
 
 pub open_room : (records : List Record) (arrivals : List Arrival) (f : Found) → IsFound records arrivals f → f.opened.now + 1 < 2 ^ 64
 open_room records arrivals f is = let now = is.opened.now in omega (arith, now, few_open records)

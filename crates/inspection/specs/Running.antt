@@ -298,8 +298,8 @@ IsNoEarlier records (End tick conn) = last_of (ticks_of records) ≤ tick
 IsNoEarlier records (Tier conn tier) = Unit {0}
 
 -- there is room for the record after these
-abbrev pub HasRoomFor : List Record → Record → Type 0
-HasRoomFor records r = length records + sizes_of records + (size_of r + 1) ≤ longest_text
+abbrev pub HasCapacityFor : List Record → Record → Type 0
+HasCapacityFor records r = length records + sizes_of records + (size_of r + 1) ≤ longest_text
 
 -- these records were read, and what they hold is kept
 pub record Holds (records : List Record) (arrivals : List Arrival) (connections : List Connection)

@@ -39,7 +39,7 @@ abbrev pub tick_line : List ℕ → Option ℕ → List ℕ
 tick_line name (Some tick) = line name tick
 tick_line name None = name ++ codes " -\n"
 
--- the most connections that were open at once, which is told of traffic, where a number names one after the other
+-- the most connections that were open at once, of traffic alone, where a number names one after the other
 abbrev pub open_line : Version → ℕ → List ℕ
 open_line One most = []
 open_line Two most = []

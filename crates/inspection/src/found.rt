@@ -140,7 +140,7 @@ impl Found {
             × (length whats + length messages.now < 2 ^ 64) }
         requires busy { self.old.busy.now.messages + length messages.now < 2 ^ 64 }
         requires few { length self.old.tails ≤ most_connections }
-        requires room { (tail_at self.old.tails conn).bytes + length piece.now < 2 ^ 64 }
+        requires capacity { (tail_at self.old.tails conn).bytes + length piece.now < 2 ^ 64 }
         requires opened { self.old.opened.now + 1 < 2 ^ 64 }
         ensures { OnOk result (TookPiece tick conn piece.now messages.now self.old self.new) }
     {

@@ -6,7 +6,7 @@ ghost use Rattle.captures.specs.Reference.{connection_of};
 ghost use Rattle.captures.specs.declared.record.Record.{Record as ARecord};
 ghost use Rattle.arrivals.specs.Connections.{IsNumber};
 ghost use Rattle.arrivals.specs.Reference.{Arrival};
-ghost use Rattle.inspection.specs.Running.{Holds, HoldsMore, HasRoomFor, IsNoEarlier};
+ghost use Rattle.inspection.specs.Running.{Holds, HoldsMore, HasCapacityFor, IsNoEarlier};
 ghost use Rattle.inspection.specs.Inspections.{HoldsAll, Stops, reader_failures, stop_of};
 
 use crate::found::{Found, inspection_of};
@@ -24,8 +24,8 @@ fn take_record(
     connections: &mut Connections,
     found: &mut Found,
 ) -> Result<(), AllocError>
-    requires room { (records : List ARecord) × (arrivals : List Arrival)
-        × Holds records arrivals connections.old found.old × HasRoomFor records next.now }
+    requires capacity { (records : List ARecord) × (arrivals : List Arrival)
+        × Holds records arrivals connections.old found.old × HasCapacityFor records next.now }
     requires number { IsNumber (connection_of next.now) }
     ensures { OnOk result ((records : List ARecord) (arrivals : List Arrival)
         → Holds records arrivals connections.old found.old → IsNoEarlier records next.now
@@ -72,7 +72,7 @@ pub fn inspect<R: Read>(alloc: Global, reader: &mut Input<R>) -> Result<Inspecti
     ensures ok { IfOk result (HoldsAll reader.old.bytes) }
     // After a fault of the capture, the figures are those of the whole records before it.
     ensures stops { IfErr result (Stops reader.old.bytes reader.new.bytes) }
-    // The reader is blamed only where it failed in this call.
+    // The reader is reported only where it failed in this call.
     ensures reads { CountsBy reader_failures reader.old.failures reader.new.failures result }
 {
     let mut capture = match CaptureReader::open(reader) {

@@ -206,7 +206,7 @@ impl Tails {
     fn reach(&mut self, conn: usize) -> Result<(), AllocError>
         ensures place { OnOk result (conn < length self.new) }
         ensures same { (c : ℕ) → tail_at self.new c ≡ tail_at self.old c }
-        ensures room { length self.new ≤ max (length self.old) (conn + 1) }
+        ensures capacity { length self.new ≤ max (length self.old) (conn + 1) }
     {
         while self.list.len() <= conn {
             self.list.push(NO_TAIL)?;
@@ -222,7 +222,7 @@ impl Tails {
         messages: &[Message],
     ) -> Result<(), AllocError>
         requires few { length self.old ≤ most_connections }
-        requires room { (tail_at self.old conn).bytes + length piece.now < 2 ^ 64 }
+        requires capacity { (tail_at self.old conn).bytes + length piece.now < 2 ^ 64 }
         ensures few { OnOk result (length self.new ≤ most_connections) }
         ensures own { OnOk result ((text : List ℕ) (ms : List AMessage)
             → tail_at self.old conn ≡ tail_of text ms
@@ -230,7 +230,7 @@ impl Tails {
             → tail_at self.new conn ≡ tail_of (text ++ piece.now) (ms ++ messages.now)) }
         ensures others { OnOk result
             ((c : ℕ) → c ≢ conn → tail_at self.new c ≡ tail_at self.old c) }
-        ensures room { length self.new ≤ max (length self.old) (conn + 1) }
+        ensures capacity { length self.new ≤ max (length self.old) (conn + 1) }
     {
         let place = usize::from(conn);
         self.reach(place)?;

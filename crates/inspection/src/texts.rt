@@ -74,7 +74,7 @@ fn write_tick(text: &mut String, name: &str, tick: Option<u64>) -> Result<(), Al
     }
 }
 
-/// Writes the most connections that were open at once, where traffic is told of.
+/// Writes the most connections that were open at once, of traffic.
 fn write_open(text: &mut String, version: Version, most: u64) -> Result<(), AllocError>
     ensures { OnOk result
         (string_bytes text.new ≡ string_bytes text.old ++ open_line version most) }

@@ -91,7 +91,7 @@ IsCache-promoted files f m bytes limit k is = record {
   there = λ e c. is.there e (Contains-promoted (nat_eq k) m.entries e c);
   sum = is.sum ∙ sym (ap (sizes files) (keys-promoted k m.entries) ∙ sizes-to_front files k (keys_of m.entries));
   within = is.within;
-  room = is.room;
+  capacity = is.capacity;
 }
 
 -- where a file isn't there, a promotion changes nothing
@@ -109,8 +109,8 @@ take_all (suc n) (x ∷ xs) h = ap (λ ys. x ∷ ys) (take_all n xs (omega (arit
 
 -- a new page in a list that isn't full goes before all that were there
 pub put_new : {X : Type 0} (k : ℕ) (v : X) (m : LruCache ℕ X) → has k (keys_of m.entries) ≡ false → length m.entries < m.cap → put_entries nat_eq m k v ≡ (k, v) ∷ m.entries
-put_new k v m new room = elim (by_entry k m.entries) [
-  | inl none ↦ rw none.0 (ap (λ es. (k, v) ∷ es) (take_all (m.cap - 1) m.entries (omega (arith, room))))
+put_new k v m new capacity = elim (by_entry k m.entries) [
+  | inl none ↦ rw none.0 (ap (λ es. (k, v) ∷ es) (take_all (m.cap - 1) m.entries (omega (arith, capacity))))
   | inr one ↦ absurd (cc)
 ]
 

@@ -15,7 +15,7 @@ use Rattle.page_cache.specs.CacheLists.{IsCache}
 use Rattle.page_cache.proofs.CacheLemmas.{promoted_none, put_new}
 use Rattle.page_cache.proofs.EvictLemmas.{Evicts, evict, fitting_all}
 
--- the list, the limit and the table's room that the fields stand for
+-- the list, the limit and the table's capacity that the fields stand for
 abbrev pub listed : {X : Type 0} → LruCache ℕ X → ℕ → CacheList
 listed pages limit = record { pages = keys_of pages.entries; limit = limit; table = pages.cap }
 
@@ -33,7 +33,7 @@ pub record Keeps {X : Type 0} (files : List File) (file_in : X → ℕ) (old : C
   pub keyed : (e : ℕ × X) → Contains pages.entries e → file_in e.1 ≡ e.0
   pub there : (e : ℕ × X) → Contains pages.entries e → e.0 < length files
   pub list : Evicts files file (old.limit - size) old.pages pages.entries bytes
-  pub room : length files ≤ pages.cap
+  pub capacity : length files ≤ pages.cap
   pub same : limit ≡ old.limit
   pub table : pages.cap ≡ old.table
 
@@ -41,8 +41,8 @@ pub record Keeps {X : Type 0} (files : List File) (file_in : X → ℕ) (old : C
 pub put_keeps : {X : Type 0} (files : List File) (f : X → ℕ) (k size : ℕ) (v : X) (pages new : LruCache ℕ X) (bytes limit : ℕ)
     → IsCache files f pages bytes limit → f v ≡ k → k < length files → has k (keys_of pages.entries) ≡ false → length pages.entries < pages.cap
     → new ≡ lru_cache (put_entries nat_eq pages k v) pages.cap → Keeps files f (listed pages limit) k size new bytes limit
-put_keeps files f k size v pages new bytes limit is key below none room put =
-    let front : new ≡ lru_cache ((k, v) ∷ pages.entries) pages.cap = put ∙ ap (λ es. lru_cache es pages.cap) (put_new k v pages none room) in
+put_keeps files f k size v pages new bytes limit is key below none capacity put =
+    let front : new ≡ lru_cache ((k, v) ∷ pages.entries) pages.cap = put ∙ ap (λ es. lru_cache es pages.cap) (put_new k v pages none capacity) in
     subst (λ m. Keeps files f (listed pages limit) k size m bytes limit) (sym front) (record {
       keyed = λ e c. elim (Contains-cons (k, v) pages.entries e c) [
         | inl same ↦ sym (ap (λ p. f p.1) same) ∙ key ∙ ap (λ p. p.0) same
@@ -53,7 +53,7 @@ put_keeps files f k size v pages new bytes limit is key below none room put =
         | inr old ↦ is.there e old
       ];
       list = record { others = keys_of pages.entries; shape = refl; sum = is.sum; same = refl };
-      room = is.room;
+      capacity = is.capacity;
       same = refl;
       table = refl;
     })
@@ -71,7 +71,7 @@ pop_keeps files f old k size pages new bytes limit e is full last popped =
         keyed = λ d c. is.keyed d (Contains-take (length pages.entries - 1) pages.entries d c);
         there = λ d c. is.there d (Contains-take (length pages.entries - 1) pages.entries d c);
         list = step.1;
-        room = is.room;
+        capacity = is.capacity;
         same = is.same;
         table = is.table;
       }),
@@ -88,7 +88,7 @@ keeps_all files f old k size pages bytes limit is fit own small = record {
       let all : sizes files (keys_of pages.entries) ≡ sizes files (k ∷ is.list.others) = ap (sizes files) is.list.shape in
       omega (arith, all, split, own, is.list.sum);
   within = omega (arith, is.same, fit, small);
-  room = is.room;
+  capacity = is.capacity;
 }
 
 pub keeps_list : {X : Type 0} (files : List File) (f : X → ℕ) (old : CacheList) (k size : ℕ) (pages : LruCache ℕ X) (bytes limit : ℕ)

@@ -36,9 +36,9 @@ sizes files list = sum_by (page_size files) list
 
 -- the longest prefix of a list whose pages fit into the room
 unfoldable pub fitting : List File → ℕ → List ℕ → List ℕ
-fitting files room [] = []
-fitting files room (x ∷ list) = if nat_le (page_size files x) room then x
-    ∷ fitting files (room - page_size files x) list else []
+fitting files capacity [] = []
+fitting files capacity (x ∷ list) = if nat_le (page_size files x) capacity then x
+    ∷ fitting files (capacity - page_size files x) list else []
 
 -- what a look finds, and what it leaves
 abbrev pub found : ℕ → List ℕ → Option ℕ
@@ -71,13 +71,14 @@ pub record IsCache {Page : Type 0} (files : List File) (file_in : Page → ℕ) 
   pub there : (e : ℕ × Page) → Contains pages.entries e → e.0 < length files
   pub sum : bytes ≡ sizes files (keys_of pages.entries)
   pub within : bytes ≤ limit
-  pub room : length files ≤ pages.cap
+  pub capacity : length files ≤ pages.cap
 
 -- it is a prefix of the list, its pages fit, and those of no longer prefix do
-pub record IsLongest (files : List File) (room : ℕ) (list kept : List ℕ) : Type 0 where
+pub record IsLongest (files : List File) (capacity : ℕ) (list kept : List ℕ) : Type 0 where
   pub begins : kept ≡ take (length kept) list
-  pub fits : sizes files kept ≤ room
-  pub longest : (n : ℕ) → n ≤ length list → sizes files (take n list) ≤ room → n ≤ length kept
+  pub fits : sizes files kept ≤ capacity
+  pub longest : (n : ℕ) → n ≤ length list → sizes files (take n list) ≤ capacity → n ≤ length kept
 
 abbrev pub FittingIsLongest : Type 0
-FittingIsLongest = (files : List File) (room : ℕ) (list : List ℕ) → IsLongest files room list (fitting files room list)
+FittingIsLongest = (files : List File) (capacity : ℕ) (list : List ℕ)
+    → IsLongest files capacity list (fitting files capacity list)

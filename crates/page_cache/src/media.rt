@@ -108,7 +108,7 @@ fn last_part(name: &[u8]) -> &[u8]
 }
 
 /// Room for the fields of any content, in bytes.
-const FIELDS_ROOM: usize = 96;
+const FIELDS_CAPACITY: usize = 96;
 
 /// The fields `Content-Type` and `Content-Length` of a content of this type and length, each with CR LF after it
 /// (RFC 9110, 8.3 and 8.6).
@@ -128,7 +128,7 @@ pub(crate) fn entity_fields_before(
 ) -> Result<String, AllocError>
     ensures { IfOk result (λ text. string_bytes text ≡ entity_fields media len) }
 {
-    let mut text = String::with_capacity(alloc, FIELDS_ROOM.saturating_add(following))?;
+    let mut text = String::with_capacity(alloc, FIELDS_CAPACITY.saturating_add(following))?;
     text.push_str("Content-Type: ")?;
     text.push_str(media.text())?;
     text.push_str("\r\nContent-Length: ")?;

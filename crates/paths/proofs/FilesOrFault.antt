@@ -50,8 +50,8 @@ name_fits files n a b name h =
 file_follows : (files : List File) (l : FileLine) (a b : Ahead) (f : File) → file_at files l a ≡ Ok (f, b) → Follows files f
 file_follows files l a b f h =
     let time = unless_ok (nat_lt max_time l.mtime) Number _ _ h in
-    let room = unless_ok (nat_lt max_file_bytes l.len || nat_le max_files (length files)) TooLarge _ _ time.1 in
-    let named_len = unless_ok (l.name_len == 0 || nat_lt max_name_bytes l.name_len) Name _ _ room.1 in
+    let capacity = unless_ok (nat_lt max_file_bytes l.len || nat_le max_files (length files)) TooLarge _ _ time.1 in
+    let named_len = unless_ok (l.name_len == 0 || nat_lt max_name_bytes l.name_len) Name _ _ capacity.1 in
     let name = bind_ok (name_at files l.name_len a) _ _ named_len.1 in
     let long = (name_inverse files l.name_len a name.0.1 name.0.0 name.1).1 in
     let fits = name_fits files l.name_len a name.0.1 name.0.0 name.1 in
@@ -62,10 +62,10 @@ file_follows files l a b f h =
     let in_time : l.mtime ≤ max_time = let t = time.0 in grind (arith, nat_tests) in
     let some : 0 < l.name_len = let t = named_len.0 in grind (arith, nat_tests) in
     let short : l.name_len ≤ max_name_bytes = let t = named_len.0 in grind (arith, nat_tests) in
-    let small : l.len ≤ max_file_bytes = let t = room.0 in grind (arith, nat_tests) in
-    let few : length files < max_files = let t = room.0 in grind (arith, nat_tests) in
+    let small : l.len ≤ max_file_bytes = let t = capacity.0 in grind (arith, nat_tests) in
+    let few : length files < max_files = let t = capacity.0 in grind (arith, nat_tests) in
     let is : IsFile made = record { mtime = in_time; some = omega arith; short = omega arith; name = fits.0; bytes = omega arith } in
-    let good : Follows files made = record { room = few; file = is; order = fits.1; apart = fits.2 } in
+    let good : Follows files made = record { capacity = few; file = is; order = fits.1; apart = fits.2 } in
     subst (λ (v : File). Follows files v) (ap (λ (p : File × Ahead). p.0) pair) good
 
 announced_follows : (files : List File) (heading : EntryHeading) (a b : Ahead) (f : File) → announced files heading a ≡ Ok (Some f, b) → Follows files f
@@ -104,7 +104,7 @@ none_passes p xs k d none lt = go (p (get_or xs k d)) refl
 
 pub rules_more : (fs : List File) (f : File) → IsSnapshot fs → Follows fs f → IsSnapshot (fs ++ f ∷ [])
 rules_more fs f c h = record {
-  count = let room = h.room in omega (arith, length-append fs (f ∷ []));
+  count = let capacity = h.capacity in omega (arith, length-append fs (f ∷ []));
   each = All-push IsFile fs f c.each h.file;
   rising = all_pairs_push (λ g k. comes_before g.name k.name ≡ true) fs f c.rising (λ k d lt. all_pass (λ g. comes_before g.name f.name) fs k d h.order lt);
   apart = all_pairs_push (λ g k. lies_in g.name k.name ≡ false) fs f c.apart (λ k d lt. none_passes (λ g. lies_in g.name f.name) fs k d h.apart lt);

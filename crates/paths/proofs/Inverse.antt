@@ -122,8 +122,8 @@ pub record TakesFile (a : Ahead) (l : FileLine) (f : File) (b : Ahead) : Type 0 
 pub file_inverse : (files : List File) (l : FileLine) (a b : Ahead) (f : File) → file_at files l a ≡ Ok (f, b) → TakesFile a l f b
 file_inverse files l a b f h =
     let time = unless_ok (nat_lt max_time l.mtime) Number _ _ h in
-    let room = unless_ok (nat_lt max_file_bytes l.len || nat_le max_files (length files)) TooLarge _ _ time.1 in
-    let named_len = unless_ok (l.name_len == 0 || nat_lt max_name_bytes l.name_len) Name _ _ room.1 in
+    let capacity = unless_ok (nat_lt max_file_bytes l.len || nat_le max_files (length files)) TooLarge _ _ time.1 in
+    let named_len = unless_ok (l.name_len == 0 || nat_lt max_name_bytes l.name_len) Name _ _ capacity.1 in
     let name = bind_ok (name_at files l.name_len a) _ _ named_len.1 in
     let name_read = name_inverse files l.name_len a name.0.1 name.0.0 name.1 in
     let body = bind_ok (body_at l.len name.0.1) _ _ name.2 in
@@ -137,5 +137,5 @@ file_inverse files l a b f h =
       len = body_read.1;
       in_time = let t = time.0 in grind (arith, nat_tests);
       in_name = let t = named_len.0 in grind (arith, nat_tests);
-      in_bytes = let t = room.0 in grind (arith, nat_tests);
+      in_bytes = let t = capacity.0 in grind (arith, nat_tests);
     })

@@ -51,7 +51,7 @@ file_again files f t l nl h left =
     let start : Ahead = record { bytes = f.name ++ line_feed ∷ (f.bytes ++ line_feed ∷ t); left = l } in
     let mid : Ahead = record { bytes = f.bytes ++ line_feed ∷ t; left = length f.bytes + (1 + nl) } in
     let last : Ahead = record { bytes = t; left = nl } in
-    let in_time = h.file.mtime in let some = h.file.some in let short = h.file.short in let size = h.file.bytes in let room = h.room in
+    let in_time = h.file.mtime in let some = h.file.some in let short = h.file.short in let size = h.file.bytes in let capacity = h.capacity in
     let a : nat_lt max_time f.mtime ≡ false = grind (arith, nat_tests) in
     let b : nat_lt max_file_bytes (length f.bytes) ≡ false = grind (arith, nat_tests) in
     let c : nat_le max_files (length files) ≡ false = grind (arith, nat_tests) in
@@ -124,7 +124,7 @@ all_is p (x ∷ xs) h = ap (λ b. b && list_all p xs) (All-head (λ f. p f ≡ t
 -- the rules say that a file follows those before it
 pub follows_prefix : (ss more : List File) (q : File) → IsSnapshot (ss ++ q ∷ more) → Follows ss q
 follows_prefix ss more q c = record {
-  room = let few = c.count in omega (arith, length-append ss (q ∷ more));
+  capacity = let few = c.count in omega (arith, length-append ss (q ∷ more));
   file = subst (λ (f : File). IsFile f) (get_or-append_seam ss q more q) (c.each (length ss) q (omega (arith, length-append ss (q ∷ more))));
   order = all_is (λ g. comes_before g.name q.name) ss (All-from_get_or (λ g. comes_before g.name q.name ≡ true) ss q before);
   apart = list_any_none (λ g. lies_in g.name q.name) ss (All-from_get_or (λ g. lies_in g.name q.name ≡ false) ss q outside);

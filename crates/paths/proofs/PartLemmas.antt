@@ -124,7 +124,7 @@ pub file_fails : (files : List File) (line : FileLine) (o m p : Option (List ℕ
     → (is_some o ≡ true → (name_at files line.name_len (ahead_of o l) ≡ Ok (name, ahead_of m ml)) × (is_some m ≡ true))
     → (is_some m ≡ true → TookPart (λ part. body_at line.len (record { bytes = part; left = ml }) ≡ Err Cut) m ml p pl) → is_some o ≡ true
     → TookPart (λ part. file_at files line (record { bytes = part; left = l }) ≡ Err Cut) o l p pl
-file_fails files line o m p l ml pl name in_time size room some short read h k =
+file_fails files line o m p l ml pl name in_time size capacity some short read h k =
     let t : Takes o l m ml (name ++ line_feed ∷ []) = record {
       bytes = λ known. (name_inverse files line.name_len (ahead_of o l) (ahead_of m ml) name (read known).0).0.bytes;
       count = λ known. (name_inverse files line.name_len (ahead_of o l) (ahead_of m ml) name (read known).0).0.left;
@@ -149,7 +149,7 @@ file_fails files line o m p l ml pl name in_time size room some short read h k =
 pub file_lacks : (files : List File) (line : FileLine) (o m : Option (List ℕ)) (l ml : ℕ)
     → line.mtime ≤ max_time → line.len ≤ max_file_bytes → length files < max_files → 0 < line.name_len → line.name_len ≤ max_name_bytes
     → TookPart (λ part. part ≡ []) o l m ml → TookPart (λ part. file_at files line (record { bytes = part; left = l }) ≡ Err Cut) o l m ml
-file_lacks files line o m l ml in_time size room some short h =
+file_lacks files line o m l ml in_time size capacity some short h =
     let a : nat_lt max_time line.mtime ≡ false = grind (arith, nat_tests) in
     let b : nat_lt max_file_bytes line.len ≡ false = grind (arith, nat_tests) in
     let c : nat_le max_files (length files) ≡ false = grind (arith, nat_tests) in

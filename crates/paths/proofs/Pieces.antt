@@ -1,4 +1,4 @@
--- A line that is read piece by piece, as far as it owes bytes.
+-- A line that is read piece by piece, each as long as its shortest rest.
 use Rattle.std.proofs.Common.{◌≡◌, ℕ, ◌≤◌, cond, Bool, true, false, List, length, drop, Option, Some, None, Result, Ok, Err, refl, arith, codes, nat_eq}
 use Rattle.std.specs.List.{starts_with}
 use Rattle.std.proofs.lemmas.List.{length-drop}

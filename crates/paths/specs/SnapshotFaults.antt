@@ -22,7 +22,7 @@ use Rattle.paths.specs.declared.snapshot_fault.SnapshotFaultKind.TheVariants.{Re
 use Rattle.devices.specs.declared.text.Stop.TheVariants as stops
 use Rattle.paths.specs.declared.file.EntryHeading.TheVariants as headings
 
--- the name of a kind, as in a line that tells of the fault
+-- the name of a kind, as in a line that reports the fault
 abbrev pub kind_name : SnapshotFaultKind → List ℕ
 kind_name Cut = codes "Cut"
 kind_name Header = codes "Header"
@@ -185,7 +185,7 @@ pub record ReadsWhole (old new : Option (List ℕ)) (files : List File) : Type 0
 abbrev pub CountsFault : {X : Type 0} → ℕ → ℕ → Result X SnapshotFault → Type 0
 CountsFault old new r = CountsBy (λ f. failures_of f.kind) old new r
 
--- What a line that announces something owes, and how it is read in pieces.
+-- The shortest rest of a line that announces something, and how the line is read in pieces.
 
 -- The call gave the next line. Where that announces something, what follows the line is ahead now.
 abbrev pub GivesLine : Option (List ℕ) → ℕ → Option (List ℕ) → ℕ → Result (List ℕ) Stop → Type 0

@@ -99,7 +99,7 @@ pub record FitsName (files : List File) (len : ℕ) (name : List ℕ) : Type 0 w
 
 -- the file may stand after these files
 pub record Follows (files : List File) (f : File) : Type 0 where
-  pub room : length files < max_files
+  pub capacity : length files < max_files
   pub file : IsFile f
   pub order : list_all (λ g. comes_before g.name f.name) files ≡ true
   pub apart : list_any (λ g. lies_in g.name f.name) files ≡ false

@@ -148,13 +148,13 @@ fn find_file(alloc: Global, files: &Snapshot, segments: &Segments) -> Result<Out
 }
 
 /// Room for most names, in bytes.
-const NAME_ROOM: usize = 64;
+const NAME_CAPACITY: usize = 64;
 
 /// The segments, with a slash between each two.
 fn join(alloc: Global, segments: &[Bytes]) -> Result<Vec<u8>, AllocError>
     ensures { IfOk result (λ name. name.items ≡ joined segments.now) }
 {
-    let mut name = Vec::with_capacity(alloc, NAME_ROOM)?;
+    let mut name = Vec::with_capacity(alloc, NAME_CAPACITY)?;
     for (at, segment) in segments.iter().enumerate() {
         append_segment(&mut name, at == 0, segment.as_slice())?;
     }

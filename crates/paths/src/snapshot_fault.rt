@@ -10,7 +10,7 @@ use std::fmt;
 /// What is wrong with an entry of a snapshot.
 #[derive(Clone, Copy, Debug, PartialEq, Eq)]
 pub enum SnapshotFaultKind {
-    /// The input ends before a line feed or before bytes that the text owes.
+    /// The input ends before a line feed or before bytes that it announces.
     Cut,
     /// The first line is another than that of a snapshot.
     Header,
@@ -39,7 +39,7 @@ pub enum SnapshotFaultKind {
 }
 
 impl SnapshotFaultKind {
-    /// Its name, as in a line that tells of the fault.
+    /// Its name, as in a line that reports the fault.
     pub fn name(self) -> &'static str
         ensures name { result.now ≡ kind_name self }
         ensures short { length result.now ≤ 12 }

@@ -1,6 +1,6 @@
 pub mod Bundling
-pub mod BlameLemmas
-pub mod BlameCounts
+pub mod AttributionLemmas
+pub mod AttributionCounts
 pub mod FilesSaid
 pub mod Programs
 pub mod Reporting

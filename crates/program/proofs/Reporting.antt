@@ -1,6 +1,6 @@
 -- From what the parts of a run with a report say to what the run says, and to what the program says.
 use Rattle.devices.specs.Devices.{CountsBy, fresh}
-use Rattle.captures.specs.Passes.{BlamesReader, leaves_reads_untold}
+use Rattle.captures.specs.Passes.{AttributesReads, leaves_reads_unreported}
 use Rattle.command_line.specs.declared.words.Engine.{Engine}
 use Rattle.command_line.specs.declared.words.Engine.TheVariants as engines
 use Rattle.std.proofs.Common.{◌≡◌, ◌∙◌, ℕ, Bool, List, Option, Result, Ok, Err, ap, inl, subst, sym, OnOk, IfErr}
@@ -18,7 +18,7 @@ use Rattle.program.specs.Bundles.{HoldsCapture}
 use Rattle.program.specs.declared.wanted.Wanted.{Wanted}
 use Rattle.program.specs.declared.wanted.Wanted.TheVariants as wants
 use Rattle.runs.specs.Ports.{Port}
-use Rattle.program.specs.Replays.{OfSnapshot, Ports, ports, HasWritten, IsReplayFault, IsFilesFault, FilesSays, untold_by, wanted_of}
+use Rattle.program.specs.Replays.{OfSnapshot, Ports, ports, HasWritten, IsReplayFault, IsFilesFault, FilesSays, unreported_by, wanted_of}
 use Rattle.program.proofs.Programs.{first_of_replay}
 use Rattle.runs.proofs.Settling.{ok_weaker, fault_weaker}
 
@@ -67,12 +67,12 @@ pub files_ok : (wanted : Wanted) (choice : Choice) (snapshot capture : Option (L
 files_ok wanted choice snapshot capture written report ran says =
     ok_weaker _ _ ran (files_weaker snapshot _ (λ files. HoldsCapture files capture) (λ files answer known. is_text wanted files choice.served capture written answer.outcome answer.answer known)) says.2.0
 
--- a device that is blamed exactly is, whatever may go untold
-pub exactly : {X E : Type 0} (r : Result X E) (blamed : E → ℕ) (untold : E → Bool) (old new : ℕ) → CountsBy blamed old new r → BlamesReader blamed untold old new r
-exactly (Ok x) blamed untold old new h = h
-exactly (Err e) blamed untold old new h = inl h
+-- a device that is reported exactly is so, whatever may go unreported
+pub exactly : {X E : Type 0} (r : Result X E) (attributed : E → ℕ) (unreported : E → Bool) (old new : ℕ) → CountsBy attributed old new r → AttributesReads attributed unreported old new r
+exactly (Ok x) attributed unreported old new h = h
+exactly (Err e) attributed unreported old new h = inl h
 
-pub staged_untold : {X : Type 0} (w : Wanted) (e : Engine) (r : Result X PassFault) (blamed : PassFault → ℕ) (old new : ℕ) → w ≡ wants.Replies e → e ≡ engines.Staged
-    → BlamesReader blamed leaves_reads_untold old new r → BlamesReader blamed (untold_by w) old new r
-staged_untold w e r blamed old new is staged h =
-    subst (λ (x : Wanted). BlamesReader blamed (untold_by x) old new r) (sym (is ∙ ap wants.Replies staged)) h
+pub staged_unreported : {X : Type 0} (w : Wanted) (e : Engine) (r : Result X PassFault) (attributed : PassFault → ℕ) (old new : ℕ) → w ≡ wants.Replies e → e ≡ engines.Staged
+    → AttributesReads attributed leaves_reads_unreported old new r → AttributesReads attributed (unreported_by w) old new r
+staged_unreported w e r attributed old new is staged h =
+    subst (λ (x : Wanted). AttributesReads attributed (unreported_by x) old new r) (sym (is ∙ ap wants.Replies staged)) h

@@ -18,7 +18,7 @@ use Rattle.captures.specs.declared.pass_fault.PassFault.{PassFault}
 use Rattle.command_line.specs.declared.words.Engine.TheVariants as engines
 use Rattle.report.specs.Reports.{report_text}
 use Rattle.runs.specs.Failures.{capture_failures, report_failures, writer_failures}
-use Rattle.runs.specs.Ports.{Port, blames, is_cut, port}
+use Rattle.runs.specs.Ports.{Port, reports_write, is_cut, port}
 use Rattle.program.specs.declared.wanted.Wanted.{Wanted}
 use Rattle.program.specs.declared.wanted.Wanted.TheVariants as wants
 use Rattle.faults.specs.declared.fault.Fault.{Fault}
@@ -100,19 +100,19 @@ abbrev pub snapshot_failures : Fault → ℕ
 snapshot_failures (Snapshot f) = failures_of f.kind
 snapshot_failures other = 0
 
--- the staged engine alone may leave a read of the capture that failed untold, where another fault comes before it
-abbrev pub untold_by : Wanted → PassFault → Bool
-untold_by (wants.Replies engines.Staged) f = passes.leaves_reads_untold f
-untold_by other f = false
+-- the staged engine alone may leave a read of the capture that failed unreported, where another fault comes before it
+abbrev pub unreported_by : Wanted → PassFault → Bool
+unreported_by (wants.Replies engines.Staged) f = passes.leaves_reads_unreported f
+unreported_by other f = false
 
-abbrev pub is_untold : Wanted → Fault → Bool
-is_untold wanted (Replay f) = untold_by wanted f
-is_untold wanted other = false
+abbrev pub is_unreported : Wanted → Fault → Bool
+is_unreported wanted (Replay f) = unreported_by wanted f
+is_unreported wanted other = false
 
--- each device is blamed exactly where it failed in the call, but for such a read
-abbrev pub Blames : Wanted → Ports → Result Unit Fault → Type 0
-Blames wanted at ran = CountsBy snapshot_failures at.snapshot.old.failures at.snapshot.new.failures ran
-    × passes.BlamesReader capture_failures (is_untold wanted) at.capture.old.failures at.capture.new.failures ran
+-- each device is reported exactly where it failed in the call, but for such a read
+abbrev pub Attributes : Wanted → Ports → Result Unit Fault → Type 0
+Attributes wanted at ran = CountsBy snapshot_failures at.snapshot.old.failures at.snapshot.new.failures ran
+    × passes.AttributesReads capture_failures (is_unreported wanted) at.capture.old.failures at.capture.new.failures ran
     × CountsBy writer_failures at.written.old.failures at.written.new.failures ran
     × CountsBy report_failures at.report.old.failures at.report.new.failures ran
 
@@ -144,19 +144,21 @@ FilesSays wanted choice snapshot capture written report ran = (snapshot_left cap
     × ReplaySays wanted choice (port (fresh snapshot) snapshot_left) (port (fresh capture) capture_left)
     written report ran
 
--- a read of the capture that failed may go untold where the engine may leave it so, where what a buffer held can't be
+-- a read of the capture that failed may go unreported where the engine may leave it so, where a buffer's bytes can't be
 -- written, and where memory runs out
-abbrev pub is_untold_at_files : Wanted → Fault → Bool
-is_untold_at_files wanted (Replay f) = untold_by wanted f
-is_untold_at_files wanted other = is_cut other
+abbrev pub is_unreported_at_files : Wanted → Fault → Bool
+is_unreported_at_files wanted (Replay f) = unreported_by wanted f
+is_unreported_at_files wanted other = is_cut other
 
--- each reader is blamed exactly where it failed in the call, but for such a read
-abbrev pub BlamesReaders : Wanted → Port → Port → Result Unit Fault → Type 0
-BlamesReaders wanted snapshot capture told =
-    passes.BlamesReader snapshot_failures is_cut snapshot.old.failures snapshot.new.failures told
-    × passes.BlamesReader capture_failures (is_untold_at_files wanted) capture.old.failures capture.new.failures told
+-- each reader is reported exactly where it failed in the call, but for such a read
+abbrev pub AttributesAllReads : Wanted → Port → Port → Result Unit Fault → Type 0
+AttributesAllReads wanted snapshot capture reported =
+    passes.AttributesReads snapshot_failures is_cut snapshot.old.failures snapshot.new.failures reported
+    × passes.AttributesReads capture_failures (is_unreported_at_files wanted) capture.old.failures
+    capture.new.failures reported
 
--- of two writers, each of which has failed or not: that of the replies is told where it failed, and at Ok the other
+-- of two writers, each of which has failed or not: that of the replies is reported where it failed, and at Ok the other
 -- hasn't
-abbrev pub HasToldOfBoth : Bool → Bool → Result Unit Fault → Type 0
-HasToldOfBoth written report told = (written ≡ true → blames Replies told ≡ true) × OnOk told (report ≡ false)
+abbrev pub ReportsBoth : Bool → Bool → Result Unit Fault → Type 0
+ReportsBoth written report reported =
+    (written ≡ true → reports_write Replies reported ≡ true) × OnOk reported (report ≡ false)

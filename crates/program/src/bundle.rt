@@ -1,18 +1,18 @@
 //! The program without arguments: a snapshot and after it a capture, replayed from one input.
 
 ghost use Rattle.std.specs.Prelude.{◌≡◌, ◌⊎◌, ◌-◌, ◌<◌, ◌^◌, false, OnOk, IfErr};
-ghost use Rattle.captures.specs.Passes.{BlamesReader};
+ghost use Rattle.captures.specs.Passes.{AttributesReads};
 ghost use Rattle.devices.specs.Devices.{CanFail, CountsBy};
 ghost use Rattle.program.specs.Bundles.{AfterSnapshot, BundleSays, HoldsCapture, IsBundleFault, IsProgramFault};
 ghost use Rattle.runs.specs.Failures.{reader_failures, writer_failures};
 ghost use Rattle.program.specs.Bundles.{WritesAnswer};
-ghost use Rattle.runs.specs.Ports.{Reads, Runs, Tells, blames, is_cut, port};
+ghost use Rattle.runs.specs.Ports.{Reads, Runs, Tells, reports_write, is_cut, port};
 
 use devices::{Input, Output};
 use faults::{Fault, Place};
 use paths::Snapshot;
 use replay::plain_replay;
-use runs::{Job, Sink, buffered_input, run_blaming, run_buffered};
+use runs::{Job, Sink, buffered_input, run_attributing, run_buffered};
 use settings::default_settings;
 use std::alloc::Global;
 use std::io::{Read, Write};
@@ -36,7 +36,7 @@ pub fn run_bundle<R: Read, W: Write>(
         (AfterSnapshot input.old.bytes (WritesAnswer output.old.bytes output.new.bytes)) }
     ensures fault { IfErr result
         (IsBundleFault (port input.old input.new) (port output.old output.new)) }
-    // A device is blamed only where it failed in this call.
+    // A device is reported only where it failed in this call.
     ensures reads { CountsBy reader_failures input.old.failures input.new.failures result }
     ensures writes { CountsBy writer_failures output.old.failures output.new.failures result }
 {
@@ -58,11 +58,11 @@ impl<R: Read + Drop> Job for Bundle<R> {
     ghost use Rattle.devices.specs.Devices.{CanFail};
     ghost use Rattle.runs.specs.Failures.{reader_failures};
     ghost use Rattle.program.specs.Bundles.{BundleSays};
-    ghost use Rattle.runs.specs.Ports.{Blaming, is_cut, port};
+    ghost use Rattle.runs.specs.Ports.{Attributing, is_cut, port};
 
     ghost ready = { λ job. CanFail job.input };
 
-    ghost says = { λ before after. Blaming reader_failures is_cut BundleSays (port before.input after.input) };
+    ghost says = { λ before after. Attributing reader_failures is_cut BundleSays (port before.input after.input) };
 
     fn run<W: Write>(&mut self, output: &mut Output<W>) -> Result<(), Fault> {
         run_bundle(self.alloc, &mut self.input, output)
@@ -70,7 +70,7 @@ impl<R: Read + Drop> Job for Bundle<R> {
 }
 
 /// Replays the capture after a snapshot, as [`run_bundle`] does, with a buffer before the output, and gives input and
-/// output back. Each device is blamed only where it failed in this call.
+/// output back. Each device is reported only where it failed in this call.
 ///
 /// # Errors
 ///
@@ -86,10 +86,15 @@ pub fn bundle_into<R: Read + Drop, W: Write + Drop>(
     requires writing { output.over ≡ false }
     ensures device { Tells Place.Replies (Runs Place.Replies (BundleSays (port input result.1))
         output.bytes result.2.bytes) result.0 }
-    ensures reads { BlamesReader reader_failures is_cut input.failures result.1.failures result.0 }
-    ensures writes { result.2.over ≡ blames Place.Replies result.0 }
+    ensures reads { AttributesReads reader_failures is_cut input.failures result.1.failures result.0 }
+    ensures writes { result.2.over ≡ reports_write Place.Replies result.0 }
 {
-    let (ran, job, output) = run_blaming(alloc, Bundle { alloc, input }, Place::Replies, output);
+    let (ran, job, output) = run_attributing(
+        alloc,
+        Bundle { alloc, input },
+        Place::Replies,
+        output,
+    );
     (ran, job.input, output)
 }
 

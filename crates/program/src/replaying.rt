@@ -5,8 +5,8 @@ ghost use Rattle.std.specs.Io.KnownBytes.{Appends};
 ghost use Rattle.devices.specs.Devices.{CanFail, CountsBy};
 ghost use Rattle.report.specs.Reports.{report_text};
 ghost use Rattle.program.specs.Bundles.{HoldsCapture};
-ghost use Rattle.runs.specs.Ports.{AtDevices, BlamesWriter, RunsAtBoth, Tells, blames, port, IsReportFault};
-ghost use Rattle.program.specs.Replays.{Blames, BlamesReaders, FilesSays, HasToldOfBoth, IsFilesFault};
+ghost use Rattle.runs.specs.Ports.{AtDevices, AttributesWrites, RunsAtBoth, Tells, reports_write, port, IsReportFault};
+ghost use Rattle.program.specs.Replays.{Attributes, AttributesAllReads, FilesSays, ReportsBoth, IsFilesFault};
 ghost use Rattle.program.specs.Replays.{IsReplayFault, OfSnapshot, ReplaySays, Replays, ports};
 ghost use Rattle.runs.specs.Failures.{report_failures};
 
@@ -16,7 +16,9 @@ use faults::{Fault, Place};
 use paths::Snapshot;
 use replay::{Outcome, Settings};
 use report::ReportFault;
-use runs::{ROOM, Sink, Stood, buffered, buffered_input, is_due, settle, told};
+use runs::{
+    BUFFER_BYTES, Initial, Sink, buffered, buffered_input, finish_output, is_due, reported,
+};
 use std::alloc::Global;
 use std::io::{Read, Write};
 use std::marker::Brand;
@@ -61,7 +63,7 @@ pub fn run_replay<T: Threads + Wait + Sync, S: Read, C: Read, W: Write, O: Write
         (ports snapshot.old snapshot.new capture.old capture.new written.old written.new out.old out.new)) }
     ensures fault { IfErr result (IsReplayFault wanted settings.now
         (ports snapshot.old snapshot.new capture.old capture.new written.old written.new out.old out.new)) }
-    ensures blames { Blames wanted
+    ensures reports_write { Attributes wanted
         (ports snapshot.old snapshot.new capture.old capture.new written.old written.new out.old out.new)
         result }
 {
@@ -73,9 +75,9 @@ pub fn run_replay<T: Threads + Wait + Sync, S: Read, C: Read, W: Write, O: Write
 }
 
 /// Runs over buffers that were made. After a fault, no more of the report is written.
-fn run_over_rooms<
-    M: Stood,
-    N: Stood,
+fn run_over_buffers<
+    M: Initial,
+    N: Initial,
     T: Threads + Wait + Sync,
     S: Read,
     C: Read,
@@ -94,16 +96,16 @@ fn run_over_rooms<
     report_waiting: Vec<u8>,
 ) -> (Result<(), Fault>, Sink<W>, Sink<O>)
     requires inputs { CanFail snapshot.old × CanFail capture.old }
-    requires written { written.bytes ≡ M.stood }
-    requires report { report.bytes ≡ N.stood }
+    requires written { written.bytes ≡ M.initial }
+    requires report { report.bytes ≡ N.initial }
     requires waiting { waiting.items ≡ [] }
     requires report_waiting { report_waiting.items ≡ [] }
     ensures stands { AtDevices (ReplaySays wanted settings.now
         (port snapshot.old snapshot.new) (port capture.old capture.new))
         written.bytes result.1.bytes report.bytes result.2.bytes result.0 }
-    ensures reads { BlamesReaders wanted
+    ensures reads { AttributesAllReads wanted
         (port snapshot.old snapshot.new) (port capture.old capture.new) result.0 }
-    ensures writes { HasToldOfBoth result.1.over result.2.over result.0 }
+    ensures writes { ReportsBoth result.1.over result.2.over result.0 }
 {
     let mut replies = buffered::<M, W>(written, waiting);
     let mut rest = buffered::<N, O>(report, report_waiting);
@@ -118,9 +120,9 @@ fn run_over_rooms<
         &mut rest,
     );
     let due = is_due(Place::Replies, &ran);
-    let (ran, written) = settle(replies, Place::Replies, due, ran);
+    let (ran, written) = finish_output(replies, Place::Replies, due, ran);
     let due = ran.is_ok();
-    let (ran, report) = settle(rest, Place::Report, due, ran);
+    let (ran, report) = finish_output(rest, Place::Report, due, ran);
     (ran, written, report)
 }
 
@@ -141,17 +143,17 @@ fn run_buffered<T: Threads + Wait + Sync, S: Read, C: Read, W: Write + Drop, O: 
     ensures stands { RunsAtBoth (ReplaySays wanted settings.now
         (port snapshot.old snapshot.new) (port capture.old capture.new))
         written.bytes result.1.bytes report.bytes result.2.bytes result.0 }
-    ensures reads { BlamesReaders wanted
+    ensures reads { AttributesAllReads wanted
         (port snapshot.old snapshot.new) (port capture.old capture.new) result.0 }
-    ensures writes { HasToldOfBoth result.1.over result.2.over result.0 }
+    ensures writes { ReportsBoth result.1.over result.2.over result.0 }
 {
     let (Ok(waiting), Ok(report_waiting)) = (
-        Vec::with_capacity(alloc, ROOM),
-        Vec::with_capacity(alloc, ROOM),
+        Vec::with_capacity(alloc, BUFFER_BYTES),
+        Vec::with_capacity(alloc, BUFFER_BYTES),
     ) else {
         return (Err(Fault::Memory), written, report);
     };
-    run_over_rooms::<Brand, Brand, T, S, C, W, O>(
+    run_over_buffers::<Brand, Brand, T, S, C, W, O>(
         rt,
         alloc,
         settings,
@@ -176,7 +178,7 @@ pub struct Devices<S: Read + Drop, C: Read + Drop, W: Write + Drop, O: Write + D
 }
 
 /// Replays a capture against a snapshot, as [`run_replay`] does, with a buffer before each output, and gives the
-/// devices back. Each is blamed only where it failed in this call.
+/// devices back. Each is reported only where it failed in this call.
 ///
 /// # Errors
 ///
@@ -203,10 +205,10 @@ pub fn replay_into<
         (port devices.snapshot result.1.snapshot) (port devices.capture result.1.capture))
         devices.written.bytes result.1.written.bytes
         devices.report.bytes result.1.report.bytes)) result.0 }
-    ensures reads { BlamesReaders wanted
+    ensures reads { AttributesAllReads wanted
         (port devices.snapshot result.1.snapshot) (port devices.capture result.1.capture) result.0 }
-    ensures writes { result.1.written.over ≡ blames Place.Replies result.0 }
-    ensures report { BlamesWriter Place.Report result.1.report.over result.0 }
+    ensures writes { result.1.written.over ≡ reports_write Place.Replies result.0 }
+    ensures report { AttributesWrites Place.Report result.1.report.over result.0 }
 {
     let Devices {
         mut snapshot,
@@ -224,8 +226,8 @@ pub fn replay_into<
         written,
         report,
     );
-    let ran = told(Place::Replies, ran, written.has_failed());
-    let ran = told(Place::Report, ran, report.has_failed());
+    let ran = reported(Place::Replies, ran, written.has_failed());
+    let ran = reported(Place::Report, ran, report.has_failed());
     let devices = Devices {
         snapshot,
         capture,

@@ -5,7 +5,7 @@ ghost use Rattle.devices.specs.Devices.{CanFail, CountsBy};
 ghost use Rattle.reference.specs.Outcomes.{Leaves};
 ghost use Rattle.captures.specs.Passes as passes;
 ghost use Rattle.runs.specs.Ports.{port};
-ghost use Rattle.program.specs.Replays.{HasWritten, untold_by, wanted_of};
+ghost use Rattle.program.specs.Replays.{HasWritten, unreported_by, wanted_of};
 
 use command_line::Engine;
 use devices::{Input, Output};
@@ -40,7 +40,7 @@ pub(crate) fn run_wanted<F: Tree + Send + Sync, T: Threads + Wait + Sync, C: Rea
     requires devices { CanFail capture.old × CanFail written.old }
     ensures fault { IfErr result (Leaves (wanted_of wanted F.files settings.now.served)
         capture.old.bytes capture.new.bytes written.old.bytes written.new.bytes) }
-    ensures reads { passes.BlamesReader passes.reader_failures (untold_by wanted)
+    ensures reads { passes.AttributesReads passes.reader_failures (unreported_by wanted)
         capture.old.failures capture.new.failures result }
     ensures writes { CountsBy passes.writer_failures
         written.old.failures written.new.failures result }

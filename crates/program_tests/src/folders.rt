@@ -59,7 +59,7 @@ fn found_of(alloc: Global, rows: &[Row]) -> Result<Vec<Found>, AllocError> {
 type Whys = &'static [Option<FileFault>];
 
 /// Whether these were left out, or this one couldn't be taken.
-fn is_told(
+fn is_reported(
     ran: &Result<(), Fault>,
     whys: &[Option<FileFault>],
     want: Result<Whys, (&str, FileFault)>,
@@ -96,7 +96,7 @@ fn check(
         &mut whys,
         &mut Output::new(&mut device),
     );
-    assert!(rt; is_told(&ran, &whys, want));
+    assert!(rt; is_reported(&ran, &whys, want));
     assert_eq!(rt; device.text(), text.as_bytes());
     Ok(())
 }

@@ -10,7 +10,7 @@ use test_support::Flaky;
 static CAPTURE: &str =
     "haboob-capture 1 784111777\npiece 7 0 21\nHEAD / HTTP/1.0\r\n\r\n..\nend 1000008 5\nstop 2\n";
 
-/// What is told of it.
+/// What is reported of it.
 fn whole(alloc: Global) -> Narrow {
     let mut output = Narrow::ample();
     let _ = inspect_files(alloc, CAPTURE.as_bytes(), &mut output);

@@ -207,7 +207,7 @@ fn flushed_at_the_end(rt: HostRuntime) {
     assert_eq!(rt; device.taken.text(), ONE_REPLY.as_bytes());
 }
 
-/// After a run the whole answer stands after what stood at the device before.
+/// After a run the whole answer stands after what the device held before.
 #[test]
 fn answer_at_a_vector(rt: HostRuntime) -> Result<(), Fail> {
     let before = Vec::from_slice(rt.alloc(), b"before")?;

@@ -27,7 +27,7 @@ pub static FIRST_RUN: &str = "haboob-snapshot 1\n\
      \n\
      stop 1\n";
 
-/// What a run came to: `ok`, or what is blamed.
+/// What a run came to: `ok`, or what is reported.
 pub fn outcome(ran: &Result<(), Fault>) -> &'static str {
     match ran {
         Ok(()) => "ok",
@@ -43,11 +43,11 @@ pub fn is_out_of_memory(fault: &Fault) -> bool {
     fault.status() == 7
 }
 
-/// A writer into a room of its own that takes at most n bytes a write, and fails at one of its writes or where
-/// the room is full. It takes no memory.
+/// A writer into a buffer of its own that takes at most n bytes a write, and fails at one of its writes or where
+/// the buffer is full. It takes no memory.
 #[derive(Drop)]
 pub struct Narrow {
-    room: [u8; 1024],
+    capacity: [u8; 1024],
     len: usize,
     size: usize,
     /// How many writes are made before the one that fails.
@@ -58,7 +58,7 @@ pub struct Narrow {
 impl Narrow {
     pub fn new(size: usize, good: usize) -> Narrow {
         Narrow {
-            room: [0; 1024],
+            capacity: [0; 1024],
             len: 0,
             size,
             good,
@@ -72,7 +72,7 @@ impl Narrow {
 
     /// What was written.
     pub fn text(&self) -> &[u8] {
-        &self.room[..self.len]
+        &self.capacity[..self.len]
     }
 }
 
@@ -84,7 +84,7 @@ impl Write for Narrow {
         self.good -= 1;
         let start = self.len;
         let count = bytes.len().min(self.size).min(1024 - start);
-        self.room[start..start + count].copy_from_slice(&bytes[..count]);
+        self.capacity[start..start + count].copy_from_slice(&bytes[..count]);
         self.len = start + count;
         Ok(count)
     }

@@ -1,4 +1,4 @@
-//! Runs that are given their devices and give them back: what is told of a device is what became of it.
+//! Runs that are given their devices and give them back: what is reported of a device is what became of it.
 use crate::reports::CAPTURE;
 use crate::running::{FIRST_RUN, Narrow, TIGHT, outcome};
 use captures::{CaptureFaultKind, PassFault, Version};
@@ -14,9 +14,9 @@ use std::sync::Wait;
 use std::thread::Threads;
 use test_support::{Flaky, NEWER, OLDER, SNAPSHOT, TIGHT_REPLIES, TIGHT_REPORT};
 
-/// Whether an upgrade told what became of its devices: how often the reader failed, whether the writer did, and whether
-/// the whole text stands. The reader is blamed where it failed, and the writer where it failed; that is told first.
-fn is_told(ran: &Result<(), Fault>, failed: (u64, bool), whole: bool) -> bool {
+/// Whether an upgrade reported what became of its devices: how often the reader failed, whether the writer did, and
+/// whether the whole text stands. A fault is reported of a device that failed.
+fn is_reported(ran: &Result<(), Fault>, failed: (u64, bool), whole: bool) -> bool {
     match ran {
         Ok(()) => whole && failed == (0, false),
         Err(Fault::Write(Place::Output)) => failed.1,
@@ -36,7 +36,7 @@ fn ends(rt: &(impl Abort + AllocGlobal), reads: usize, writes: usize) -> bool {
     let failed = (input.failures(), output.has_failed());
     let text = output.into_writer();
     assert!(rt; NEWER.as_bytes().starts_with(text.text()));
-    assert!(rt; is_told(&ran, failed, text.text() == NEWER.as_bytes()));
+    assert!(rt; is_reported(&ran, failed, text.text() == NEWER.as_bytes()));
     ran.is_ok()
 }
 

@@ -13,7 +13,7 @@ use Rattle.responses.specs.Reference.{reply_text, statuses}
 use Rattle.responses.specs.declared.slip.Slip.{Slip}
 use Rattle.arrivals.specs.Reference.{Arrival}
 use Rattle.decision_table.specs.Rows.{heading, row_text}
-use Rattle.reference.specs.Reference.{Terms, station_for, tick_in, is_head, answers_head, persistence_of, given, charge_of, Handled, offer_at, offers_of, rejects, handled_next, handled_after, handled, slip_of, reply_of, replies_of, rejected_of, status_for, count_of, bypassed_of, breaks_a_rule, summary_of, samples_of, tallies_of}
+use Rattle.reference.specs.Reference.{Terms, station_for, tick_in, is_head, answers_head, persistence_of, response, charge_of, Handled, offer_at, offers_of, rejects, handled_next, handled_after, handled, slip_of, reply_of, replies_of, rejected_of, status_for, count_of, bypassed_of, breaks_a_rule, summary_of, samples_of, tallies_of}
 use Rattle.reference.specs.Explaining.{has_pools, first_offered, row_after, rows_after, method_of, target_of}
 use Rattle.reference.specs.Choices.{at_speed}
 use Rattle.reference.specs.Laws.{hurried, SpeedDividesTicks}
@@ -64,7 +64,7 @@ slip_same files t start h = λ i. record {
   date = start + tick_same t h.arrival i / 1000000;
   head = answers_head h.arrival.message.what;
   link = persistence_of h.arrival.message.what;
-  what = given files t h.turned_away h.arrival.message.what;
+  what = response files t h.turned_away h.arrival.message.what;
 }
 
 reply_same : (files : List File) (t : Terms) (start : ℕ) (h : Handled) → reply_of files (at_speed 100 t) start (sooner t.speed h) ≡ reply_of files t start h

@@ -42,7 +42,7 @@ use Rattle.reference.specs.Reference.{station_for, Terms, Handled, offer_at, off
 use Rattle.reference.specs.Outcomes.{outcome_of}
 use Rattle.reference.specs.Choices.{with_policies, at_speed}
 use Rattle.reference.specs.Former.{FormerTerms, finish_in, former_finishes, former_samples, former_control, former_controls, former_rate, last_of, token, former_decision, former_offer, former_next, former_decided, former_handled, former_tally, no_requests, former_terms, former_outcome}
-use Rattle.reference.specs.Laws.{AtDefaults, told_in, SameInVersionOne, FormerAnswersHold, UpgradeKeepsAnswers, UpgradeKeepsReplies}
+use Rattle.reference.specs.Laws.{AtDefaults, reported_in, SameInVersionOne, FormerAnswersHold, UpgradeKeepsAnswers, UpgradeKeepsReplies}
 
 -- ---- offers of tier 0
 
@@ -181,14 +181,14 @@ carried : (files : List File) (terms other : Terms) (from to : List ℕ) (old ne
     → ((arrivals : List Arrival) → AreArrivals (used_once records) arrivals
     → (replies_of files terms start (handled files terms arrivals) ≡ replies_of files other start (handled files other arrivals))
     × (outcome_of w files terms arrivals ≡ outcome_of w files other arrivals))
-    → Answers files terms (Some from) old new outcome → Answers files other (Some to) old new (told_in w outcome)
+    → Answers files terms (Some from) old new outcome → Answers files other (Some to) old new (reported_in w outcome)
 carried files terms other from to old new outcome v w start records first second wider alike a =
     let both = one_list from a.read.capture.version v a.read.capture.start start a.read.capture.records records (a.read.capture.text refl) first in
     let few = a.read.few in
     let most = ap (λ v. (format_of v).max_messages) both.0 in
     let are = subst (λ rs. AreArrivals (used_once rs) a.read.arrivals) both.2 a.read.are in
     let same = alike a.read.arrivals are in
-    answered files other (Some to) old new (told_in w outcome)
+    answered files other (Some to) old new (reported_in w outcome)
     (record {
       capture = record { version = w; start = start; records = records; rules = second.rules; text = λ known. second };
       arrivals = a.read.arrivals;
@@ -196,7 +196,7 @@ carried files terms other from to old new outcome v w start records first second
       few = omega (arith, few, most, wider);
     })
     (subst (λ rs. Appends old new (replies_text rs)) (ap (λ s. replies_of files terms s (handled files terms a.read.arrivals)) both.1 ∙ same.0) a.written_exactly)
-    (ap (told_in w) (outcome_is a) ∙ same.1)
+    (ap (reported_in w) (outcome_is a) ∙ same.1)
 
 pub upgrade_keeps_answers : UpgradeKeepsAnswers
 upgrade_keeps_answers files terms policies text later old new outcome u one same =
@@ -463,7 +463,7 @@ same_in_version_one files terms input old new outcome d a one =
       version = one;
       plain = λ k e lt. (numbers_are One c.start c.records a.read.arrivals rules refl a.read.are k e lt, lowest k e lt);
       written = subst (λ rs. Appends old new (replies_text rs)) (at_same files terms c.start d both.0) a.written_exactly;
-      told = outcome_is a ∙ ap (λ v. outcome_of v files terms a.read.arrivals) one ∙ both.1;
+      reported = outcome_is a ∙ ap (λ v. outcome_of v files terms a.read.arrivals) one ∙ both.1;
     }
 
 pub former_answers_hold : FormerAnswersHold
@@ -471,6 +471,6 @@ former_answers_hold files terms input old new outcome d f =
     let both = as_before files terms f.read.arrivals d (λ k e lt. (f.plain k e lt).1) in (
       answered files terms input old new outcome f.read
           (subst (λ rs. Appends old new (replies_text rs)) (sym (at_same files terms f.read.capture.start d both.0)) f.written)
-          (f.told ∙ sym both.1 ∙ ap (λ v. outcome_of v files terms f.read.arrivals) (sym f.version)),
+          (f.reported ∙ sym both.1 ∙ ap (λ v. outcome_of v files terms f.read.arrivals) (sym f.version)),
       f.version,
     )

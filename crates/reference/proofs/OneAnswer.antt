@@ -22,10 +22,10 @@ pub same_outcome : (a b : Outcome) → a.version ≡ b.version → a.rejected �
 same_outcome a b version rejected summary = rw (version, rejected, summary) refl
 
 pub one_answer : OneAnswer
-one_answer files terms input old new other outcome another given known a b =
+one_answer files terms input old new other outcome another response known a b =
     let c = a.read.capture in
     let d = b.read.capture in
-    let capture = one_list (unwrap_or input []) c.version d.version c.start d.start c.records d.records (c.text given) (d.text given) in
+    let capture = one_list (unwrap_or input []) c.version d.version c.start d.start c.records d.records (c.text response) (d.text response) in
     let arrivals : a.read.arrivals ≡ b.read.arrivals = one_list_of_arrivals (used_once d.records) a.read.arrivals b.read.arrivals (subst (λ rs. AreArrivals (used_once rs) a.read.arrivals) capture.2 a.read.are) b.read.are in
     let text = ap (λ start. replies_text (replies_of files terms start (handled files terms a.read.arrivals))) capture.1 ∙ ap (λ xs. replies_text (replies_of files terms d.start (handled files terms xs))) arrivals in (
       grows_once old new other _ _ known text a.written_exactly b.written_exactly,

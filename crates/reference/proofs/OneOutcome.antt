@@ -133,7 +133,7 @@ same_text files terms s t xs ys start same =
     ap (λ u. text_before_stop (replies_of files terms u (handled files terms xs))) start ∙ ap (λ (l : List Arrival). text_before_stop (replies_of files terms t (handled files terms l))) same
 
 pub one_limit : OneLimit
-one_limit files terms input old new other number another known given a b =
+one_limit files terms input old new other number another known response a b =
     let r = a.taken.read in
     let t = b.taken.read in
     let both = agree_on (unwrap_or input []) r.version t.version r.start t.start r.records t.records r.rest t.rest r.rules t.rules (r.begins known) (t.begins known) in
@@ -142,39 +142,39 @@ one_limit files terms input old new other number another known given a b =
     let first : take number a.taken.arrivals ≡ take number b.taken.arrivals =
     same_limit number r.records t.records r.rest t.rest a.taken.arrivals b.taken.arrivals a.taken.arrived b.taken.arrived a.beyond (omega (arith, beyond, same)) both.2 in
     let both_first : take number a.taken.arrivals ≡ take another b.taken.arrivals = first ∙ ap (λ n. take n b.taken.arrivals) same in (
-      grows_once old new other _ _ given (same_text files terms r.start t.start _ _ both.1 both_first) a.written b.written,
+      grows_once old new other _ _ response (same_text files terms r.start t.start _ _ both.1 both_first) a.written b.written,
       same,
     )
 
 same_after : (files : List File) (terms : Terms) (input ahead following old new other : Option (List ℕ)) (f g : CaptureFault) → is_some input ≡ true → is_some old ≡ true → f ≡ g
     → (r t : RecordsRead input) → FaultsNext input ahead r f → FaultsNext input following t g
     → WritesAll (reply_texts files terms) r.version r.start r.records old new → WritesAll (reply_texts files terms) t.version t.start t.records old other → new ≡ other
-same_after files terms input ahead following old new other f g known given same r t at after a b =
+same_after files terms input ahead following old new other f g known response same r t at after a b =
     let both = agree_on (unwrap_or input []) r.version t.version r.start t.start r.records t.records r.rest t.rest r.rules t.rules (r.begins known) (t.begins known) in
     let place = ap (λ (k : CaptureFault). k.at) same in
     let i = at.at in
     let j = after.at in
     let records = same_records r.records t.records r.rest t.rest (omega (arith, place, i, j)) both.2 in
     let arrivals = one_list_of_arrivals (used_once t.records) a.arrivals b.arrivals (subst (λ (l : List Record). AreArrivals (used_once l) a.arrivals) records a.arrived) b.arrived in
-    grows_once old new other _ _ given (same_text files terms r.start t.start a.arrivals b.arrivals both.1 arrivals) a.written b.written
+    grows_once old new other _ _ response (same_text files terms r.start t.start a.arrivals b.arrivals both.1 arrivals) a.written b.written
 
 same_written : (files : List File) (terms : Terms) (input ahead following old new other : Option (List ℕ)) (f g : CaptureFault) → is_some input ≡ true → is_some old ≡ true → f ≡ g
     → Stops files terms input ahead old new f → Stops files terms input following old other g → new ≡ other
-same_written files terms input ahead following old new other f g known given same (inl a) (inl b) = grows_once old new other first_line first_line given refl a.1 b.1
-same_written files terms input ahead following old new other f g known given same (inl a) (inr b) =
+same_written files terms input ahead following old new other f g known response same (inl a) (inl b) = grows_once old new other first_line first_line response refl a.1 b.1
+same_written files terms input ahead following old new other f g known response same (inl a) (inr b) =
     let place = ap (λ (k : CaptureFault). k.at) same in
     let i = a.0.at in
     let j = b.1.at in
     absurd (omega (arith, place, i, j))
-same_written files terms input ahead following old new other f g known given same (inr a) (inl b) =
+same_written files terms input ahead following old new other f g known response same (inr a) (inl b) =
     let place = ap (λ (k : CaptureFault). k.at) same in
     let i = a.1.at in
     let j = b.0.at in
     absurd (omega (arith, place, i, j))
-same_written files terms input ahead following old new other f g known given same (inr a) (inr b) =
-    same_after files terms input ahead following old new other f g known given same a.0 b.0 a.1 b.1 a.2 b.2
+same_written files terms input ahead following old new other f g known response same (inr a) (inr b) =
+    same_after files terms input ahead following old new other f g known response same a.0 b.0 a.1 b.1 a.2 b.2
 
 pub one_fault : OneFault
-one_fault files terms input ahead following old new other f g known given foreseen expected a b =
+one_fault files terms input ahead following old new other f g known response foreseen expected a b =
     let same = one_first_fault (unwrap_or input []) f g (first_fault files terms input ahead old new f known foreseen a) (first_fault files terms input following old other g known expected b) in
-    (same_written files terms input ahead following old new other f g known given same a b, same)
+    (same_written files terms input ahead following old new other f g known response same a b, same)

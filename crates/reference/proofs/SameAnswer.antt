@@ -7,14 +7,14 @@ use Rattle.paths.specs.declared.resolution.Outcome.TheVariants as outcomes
 use Rattle.http_requests.specs.declared.messages.Meaning.{Meaning}
 use Rattle.http_requests.specs.declared.messages.Meaning.TheVariants.{Request, Bad}
 use Rattle.responses.specs.declared.slip.Persistence.{Persistence}
-use Rattle.responses.specs.declared.slip.Given.{Given}
-use Rattle.responses.specs.declared.slip.Given.TheVariants.{Page, Known, Unmodified, Moved, Plain}
+use Rattle.responses.specs.declared.slip.ResponseKind.{ResponseKind}
+use Rattle.responses.specs.declared.slip.ResponseKind.TheVariants.{Page, Known, Unmodified, Moved, Plain}
 use Rattle.responses.specs.declared.slip.Slip.{Slip}
 use Rattle.responses.specs.Reference.{reply_text, status_of}
-use Rattle.reference.specs.Reference.{Terms, is_unmodified, is_head, file_answer, outcome_answer, answer, given, Handled, slip_of, reply_of}
+use Rattle.reference.specs.Reference.{Terms, is_unmodified, is_head, file_answer, outcome_answer, answer, response, Handled, slip_of, reply_of}
 
 -- the same answer, at another type of pages
-abbrev pub at_pages : {X Y : Type 0} → Given X → Given Y
+abbrev pub at_pages : {X Y : Type 0} → ResponseKind X → ResponseKind Y
 at_pages (Page file mtime) = Page file mtime
 at_pages (Known media len mtime) = Known media len mtime
 at_pages (Unmodified mtime) = Unmodified mtime
@@ -41,25 +41,25 @@ answer_same : (X Y : Type 0) (files : List File) (what : Meaning) → at_pages {
 answer_same X Y files (Request method target version closing since) = outcome_same X Y files (is_head method) since (outcome files (asked method target))
 answer_same X Y files (Bad fault) = refl
 
-status_kept : (X Y : Type 0) (given : Given X) → status_of (at_pages {X = X} {Y = Y} given) ≡ status_of given
+status_kept : (X Y : Type 0) (response : ResponseKind X) → status_of (at_pages {X = X} {Y = Y} response) ≡ status_of response
 status_kept X Y (Page file mtime) = refl
 status_kept X Y (Known media len mtime) = refl
 status_kept X Y (Unmodified mtime) = refl
 status_kept X Y (Moved location) = refl
 status_kept X Y (Plain status) = refl
 
-given_same : (X Y : Type 0) (files : List File) (terms : Terms) (away : Bool) (what : Meaning) → at_pages {X = X} {Y = Y} (given files terms away what) ≡ given files terms away what
+given_same : (X Y : Type 0) (files : List File) (terms : Terms) (away : Bool) (what : Meaning) → at_pages {X = X} {Y = Y} (response files terms away what) ≡ response files terms away what
 given_same X Y files terms true what = refl
 given_same X Y files terms false what = answer_same X Y files what
 
-pub status_same : (X Y : Type 0) (files : List File) (terms : Terms) (away : Bool) (what : Meaning) → status_of (given {X = X} files terms away what) ≡ status_of (given {X = Y} files terms away what)
-status_same X Y files terms away what = sym (status_kept X Y (given files terms away what)) ∙ ap status_of (given_same X Y files terms away what)
+pub status_same : (X Y : Type 0) (files : List File) (terms : Terms) (away : Bool) (what : Meaning) → status_of (response {X = X} files terms away what) ≡ status_of (response {X = Y} files terms away what)
+status_same X Y files terms away what = sym (status_kept X Y (response files terms away what)) ∙ ap status_of (given_same X Y files terms away what)
 
 -- a slip of these parts
-slip_with : {X : Type 0} → ℕ → ℕ → ℕ → Bool → Persistence → Given X → Slip X
+slip_with : {X : Type 0} → ℕ → ℕ → ℕ → Bool → Persistence → ResponseKind X → Slip X
 slip_with number conn date head link reported = record { number = number; conn = conn; date = date; head = head; link = link; what = reported }
 
-text_kept : (X Y : Type 0) (files : List File) (number conn date : ℕ) (head : Bool) (link : Persistence) (reported : Given X)
+text_kept : (X Y : Type 0) (files : List File) (number conn date : ℕ) (head : Bool) (link : Persistence) (reported : ResponseKind X)
     → reply_text files (slip_with number conn date head link (at_pages {X = X} {Y = Y} reported)) ≡ reply_text files (slip_with number conn date head link reported)
 unfolding slip_with
 text_kept X Y files number conn date head link (Page file mtime) = refl

@@ -33,7 +33,7 @@ pub rows_one : (files : List File) (terms : Terms) (earlier : List Arrival) (a :
 unfolding rows_after
 rows_one files terms earlier a = append-nil (row_after files terms earlier a)
 
--- the rows are told from the heading on
+-- the rows are written from the heading on
 pub rows_laws : (files : List File) (terms : Terms) → AreTexts (row_texts files terms)
 rows_laws files terms = record {
   begins = λ start. ap (λ v. heading (has_pools terms) ++ v) (rows_none files terms []) ∙ append-nil (heading (has_pools terms));

@@ -20,7 +20,7 @@ use Rattle.admission.specs.Reference.{least_balance, tick_from}
 use Rattle.arrivals.specs.Reference.{Arrival}
 use Rattle.reference.specs.declared.summary.Outcome.{Outcome}
 use Rattle.reference.specs.declared.summary.Tally.{Tally}
-use Rattle.reference.specs.Reference.{Terms, station_for, is_head, Handled, length_given, is_unmodified_file, counts_of}
+use Rattle.reference.specs.Reference.{Terms, station_for, is_head, Handled, length_found, is_unmodified_file, counts_of}
 use Rattle.reference.specs.Choices.{at_speed}
 use Rattle.reference.specs.Reference.{bypassed_of, rejected_of, replies_of, replies_text, ArrivedCapture}
 
@@ -88,7 +88,7 @@ former_offer terms tick (Request method target version closing since) =
       pool = 0;
       tier = 0;
       tick = tick;
-      service = service terms.costs answer (is_head method) unmodified (length_given terms.files answer);
+      service = service terms.costs answer (is_head method) unmodified (length_found terms.files answer);
       delay = 0;
     }) ∷ []
 former_offer terms tick (Bad fault) = []
@@ -128,7 +128,7 @@ no_requests = record { admitted = 0; rejected = 0; controls = [] }
 abbrev pub former_terms : List File → Terms → FormerTerms
 former_terms files terms = record { files = files; costs = terms.tariff.costs; rules = rules_of (station_for terms) 0 }
 
--- which messages were turned away, and what became of all, told by tiers: all requests came in tier 0; and no pools
+-- which messages were turned away, and what became of all, by tiers: all requests came in tier 0; and no pools
 abbrev pub former_outcome : List File → Terms → List Arrival → Outcome
 former_outcome files terms arrivals =
     (let messages = former_handled (former_terms files terms) [] 0 arrivals in
@@ -154,4 +154,4 @@ pub record FormerAnswers (files : List File) (terms : Terms) (input old new : Op
   pub plain : All (λ a. (a.origin.conn ≡ a.connection) × (a.origin.tier ≡ 0)) read.arrivals
   pub written : Appends old new (replies_text (replies_of files (at_speed 100 terms) read.capture.start
       (former_handled (former_terms files terms) [] 0 read.arrivals)))
-  pub told : outcome ≡ former_outcome files terms read.arrivals
+  pub reported : outcome ≡ former_outcome files terms read.arrivals

@@ -143,8 +143,8 @@ FormerAnswersHold = (files : List File) (terms : Terms) (input old new : Option 
     → (answers : Answers files terms input old new outcome) × (answers.read.capture.version ≡ One)
 
 -- the outcome of the same records in another format
-abbrev pub told_in : Version → Outcome → Outcome
-told_in version outcome =
+abbrev pub reported_in : Version → Outcome → Outcome
+reported_in version outcome =
     record { version = version; rejected = outcome.rejected; summary = outcome.summary }
 
 -- a capture of version 1 and its upgraded text have the same answers but for their format, whatever the policies of
@@ -155,9 +155,9 @@ UpgradeKeepsAnswers = (files : List File) (terms : Terms) (policies : List Polic
     → (upgrade : IsUpgrade Two text upgraded) → upgrade.version ≡ One
     → rules_of (station_for terms) 0 ≡ rules_of (station_for (with_policies policies terms)) 0
     → (Answers files terms (Some text) old new outcome
-    → Answers files (with_policies policies terms) (Some upgraded) old new (told_in Two outcome))
+    → Answers files (with_policies policies terms) (Some upgraded) old new (reported_in Two outcome))
     × (Answers files terms (Some upgraded) old new outcome
-    → Answers files (with_policies policies terms) (Some text) old new (told_in One outcome))
+    → Answers files (with_policies policies terms) (Some text) old new (reported_in One outcome))
 
 -- a text of recorded traffic and its upgraded one have the same answers but for their format: so have a capture and the
 -- same traffic in the format that is days long
@@ -166,7 +166,7 @@ UpgradeKeepsReplies = (files : List File) (terms : Terms) (to : Version) (text u
     (old new : Option (List ℕ))
     (outcome : Outcome) → (upgrade : IsUpgrade to text upgraded)
     → Answers files terms (Some text) old new outcome
-    → Answers files terms (Some upgraded) old new (told_in (later to upgrade.version) outcome)
+    → Answers files terms (Some upgraded) old new (reported_in (later to upgrade.version) outcome)
 
 -- what of an arrival answers depend on: its number, tick and tier, and what it means
 abbrev pub asked_by : Arrival → Origin × Meaning

@@ -25,8 +25,8 @@ use Rattle.responses.specs.declared.slip.Persistence.TheVariants.{Close, KeepAli
 use Rattle.responses.specs.declared.slip.Status.{Status}
 use Rattle.responses.specs.declared.slip.Status.TheVariants.{BadRequest, NotFound, MethodNotAllowed, ContentTooLarge}
 use Rattle.responses.specs.declared.slip.Status.TheVariants.{NotImplemented, ServiceUnavailable}
-use Rattle.responses.specs.declared.slip.Given.{Given}
-use Rattle.responses.specs.declared.slip.Given.TheVariants.{Page, Known, Unmodified, Moved, Plain}
+use Rattle.responses.specs.declared.slip.ResponseKind.{ResponseKind}
+use Rattle.responses.specs.declared.slip.ResponseKind.TheVariants.{Page, Known, Unmodified, Moved, Plain}
 use Rattle.arrivals.specs.Reference.{Arrival, AreArrivals, text_of}
 use Rattle.arrivals.specs.declared.incoming.Origin.{Origin}
 use Rattle.responses.specs.declared.slip.Slip.{Slip}
@@ -82,14 +82,14 @@ is_unmodified (Some date) mtime = nat_le mtime date
 is_unmodified None mtime = false
 
 -- a file is given, or only its head to HEAD; or it was not modified
-abbrev pub file_answer : {X : Type 0} → List File → Bool → Option ℕ → ℕ → Given X
+abbrev pub file_answer : {X : Type 0} → List File → Bool → Option ℕ → ℕ → ResponseKind X
 file_answer files head since file =
     if is_unmodified since (file_of files file).mtime then (Unmodified (file_of files file).mtime)
     else if head then (Known (media_of (file_of files file).name) (length (file_of files file).bytes)
     (file_of files file).mtime)
     else (Page file (file_of files file).mtime)
 
-abbrev pub outcome_answer : {X : Type 0} → List File → Bool → Option ℕ → PathOutcome → Given X
+abbrev pub outcome_answer : {X : Type 0} → List File → Bool → Option ℕ → PathOutcome → ResponseKind X
 outcome_answer files head since (outcomes.File file) = file_answer files head since file
 outcome_answer files head since (outcomes.Move location) = Moved location
 outcome_answer files head since outcomes.Missing = Plain NotFound
@@ -106,7 +106,7 @@ answers_head (Request method target version closing since) = is_head method
 answers_head (Bad fault) = false
 
 -- what a message is answered with
-abbrev pub answer : {X : Type 0} → List File → Meaning → Given X
+abbrev pub answer : {X : Type 0} → List File → Meaning → ResponseKind X
 answer files (Request method target version closing since) = outcome_answer files (is_head method) since
     (outcome files (asked method target))
 answer files (Bad fault) = Plain (fault_status fault)
@@ -123,17 +123,17 @@ persistence_of (Bad fault) = Close
 
 -- how a message is answered: a request that is turned away may come again in n seconds; each other message is
 -- answered
-abbrev pub given : {X : Type 0} → List File → Terms → Bool → Meaning → Given X
-given files terms true what = Plain (ServiceUnavailable terms.retry_after)
-given files terms false what = answer files what
+abbrev pub response : {X : Type 0} → List File → Terms → Bool → Meaning → ResponseKind X
+response files terms true what = Plain (ServiceUnavailable terms.retry_after)
+response files terms false what = answer files what
 
 -- Which messages are offered to the admission control, and which of them it turns away.
 
 -- how many bytes the file has that a request is answered with, and whether they were not modified since the date that
 -- it names
-abbrev pub length_given : List File → PathOutcome → ℕ
-length_given files (outcomes.File file) = length (file_of files file).bytes
-length_given files other = 0
+abbrev pub length_found : List File → PathOutcome → ℕ
+length_found files (outcomes.File file) = length (file_of files file).bytes
+length_found files other = 0
 
 abbrev pub is_unmodified_file : List File → Option ℕ → PathOutcome → Bool
 is_unmodified_file files since (outcomes.File file) = is_unmodified since (file_of files file).mtime
@@ -142,7 +142,7 @@ is_unmodified_file files since other = false
 -- what a request with this target and this outcome costs
 abbrev pub charge_of : List File → Terms → List ℕ → Bool → Option ℕ → PathOutcome → Charge
 charge_of files terms target head since o = charge terms.tariff target o head (is_unmodified_file files since o)
-    (length_given files o)
+    (length_found files o)
 
 -- the offer of a request that came from there and costs this
 abbrev pub offer_of : Terms → Origin → Charge → Offer
@@ -205,7 +205,7 @@ slip_of files terms start h = record {
   date = start + tick_in terms h.arrival.origin / 1000000;
   head = answers_head h.arrival.message.what;
   link = persistence_of h.arrival.message.what;
-  what = given files terms h.turned_away h.arrival.message.what;
+  what = response files terms h.turned_away h.arrival.message.what;
 }
 
 -- the reply to a message: its number, its connection, and the reply's text
@@ -239,7 +239,7 @@ breaks_a_rule (Request method target version closing since) = false
 
 -- the status that a message is answered with
 abbrev pub status_for : List File → Terms → Handled → ℕ
-status_for files terms h = status_of (given {X = Unit {0}} files terms h.turned_away h.arrival.message.what)
+status_for files terms h = status_of (response {X = Unit {0}} files terms h.turned_away h.arrival.message.what)
 
 abbrev pub count_of : List File → Terms → List Handled → ℕ → ℕ
 count_of files terms messages status = count_by (λ h. status_for files terms h == status) messages

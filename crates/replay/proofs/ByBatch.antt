@@ -11,7 +11,7 @@ use Rattle.captures.specs.declared.record.Record.{Record}
 use Rattle.captures.specs.declared.record.Record.TheVariants.{Piece, End, Tier}
 use Rattle.captures.specs.declared.version.Version.{Version}
 use Rattle.captures.specs.declared.progress.Progress.{Progress}
-use Rattle.captures.specs.Reference.{connection_of as number_of, connection_now, of_connection, used_once, used_once_after, max_tick, max_tier, last_of, tier_given, tier_of, IsCapture, IsRecord, ticks_of}
+use Rattle.captures.specs.Reference.{connection_of as number_of, connection_now, of_connection, used_once, used_once_after, max_tick, max_tier, last_of, tier_set, tier_of, IsCapture, IsRecord, ticks_of}
 use Rattle.captures.specs.CaptureFaults.{longest_text}
 use Rattle.captures.proofs.Lines.{within_longest}
 use Rattle.captures.proofs.Lives.{IsLow, all_low}
@@ -24,10 +24,10 @@ use Rattle.reference.specs.Reference.{Terms}
 use Rattle.arrivals.specs.Reference.{Arrival, ArrivesWith, AreArrivals, Precedes}
 use Rattle.arrivals.specs.Batches.{ReadsOn, sent_to, origin_now, origins_after, lists_to, arrivals_in, incoming_from, Stand}
 use Rattle.arrivals.specs.Connections.{HaveRead, connection_at, text_now, messages_now, arrivals_with}
-use Rattle.arrivals.specs.SeatStates.{SeatState, seat_at, with_connection, with_lists, size, total, CanRead, IsReady, IsCutOf, count_to}
+use Rattle.arrivals.specs.QueueStates.{QueueState, queued_at, with_connection, with_lists, size, total, CanRead, IsReady, IsCutOf, count_to}
 use Rattle.arrivals.specs.declared.connections.Connection.TheVariants.{Silent}
-use Rattle.arrivals.specs.declared.seat.Waiting.{Waiting as Sent}
-use Rattle.arrivals.specs.declared.seat.Waiting.TheVariants.{Piece as Comes, End as Ends}
+use Rattle.arrivals.specs.declared.connection_queue.Waiting.{Waiting as Sent}
+use Rattle.arrivals.specs.declared.connection_queue.Waiting.TheVariants.{Piece as Comes, End as Ends}
 use Rattle.replay.specs.Serving.{Serves}
 use Rattle.replay.specs.Waiting.{incoming_of, InTime, connections_of, Waiting, ComeNext, Upcoming}
 use Rattle.arrivals.specs.Gathering.{Adds}
@@ -42,25 +42,25 @@ use Rattle.paths.specs.declared.file.File.{File}
 
 -- ---- what the engine keeps
 
-pub connection_of : (places : List SeatState) (c : ℕ) → connection_at (connections_of places) c ≡ (seat_at places c).connection
+pub connection_of : (places : List QueueState) (c : ℕ) → connection_at (connections_of places) c ≡ (queued_at places c).connection
 connection_of [] zero = refl
 connection_of [] (suc c) = refl
 connection_of (p ∷ places) zero = refl
 connection_of (p ∷ places) (suc c) = connection_of places c
 
--- a seat that is as it was keeps its connection
-pub same_at : (old new : List SeatState) (c : ℕ) → seat_at new c ≡ seat_at old c → connection_at (connections_of new) c ≡ connection_at (connections_of old) c
-same_at old new c same = connection_of new c ∙ ap (λ (p : SeatState). p.connection) same ∙ sym (connection_of old c)
+-- a queue that is as it was keeps its connection
+pub same_at : (old new : List QueueState) (c : ℕ) → queued_at new c ≡ queued_at old c → connection_at (connections_of new) c ≡ connection_at (connections_of old) c
+same_at old new c same = connection_of new c ∙ ap (λ (p : QueueState). p.connection) same ∙ sym (connection_of old c)
 
 -- nothing waits still, where one connection alone is another
-pub idle_still : (old new : List SeatState) (conn : ℕ) (x : Connection) → seat_at new conn ≡ with_connection x (seat_at old conn) → ((c : ℕ) → c ≢ conn → seat_at new c ≡ seat_at old c)
+pub idle_still : (old new : List QueueState) (conn : ℕ) (x : Connection) → queued_at new conn ≡ with_connection x (queued_at old conn) → ((c : ℕ) → c ≢ conn → queued_at new c ≡ queued_at old c)
     → Waiting [] old → Waiting [] new
 idle_still old new conn x own others idle c = elim (cases_eq c conn) [
   | inl e ↦ rw (e, own) (idle conn)
   | inr apart ↦ rw (others c apart) (idle c)
 ]
 
-serves_same : (files : List File) (terms : Terms) (records : List Record) (arrivals : List Arrival) (old new : List SeatState) (decider : Decider) → ((c : ℕ) → (seat_at new c).connection ≡ (seat_at old c).connection)
+serves_same : (files : List File) (terms : Terms) (records : List Record) (arrivals : List Arrival) (old new : List QueueState) (decider : Decider) → ((c : ℕ) → (queued_at new c).connection ≡ (queued_at old c).connection)
     → Serves files terms records arrivals (connections_of old) decider → Serves files terms records arrivals (connections_of new) decider
 serves_same files terms records arrivals old new decider same serves = record {
   reads = record { each = λ c low. rw (connection_of new c, same c, ← connection_of old c) (serves.reads.each c low) };
@@ -69,19 +69,19 @@ serves_same files terms records arrivals old new decider same serves = record {
 }
 
 -- a batch was read
-pub come_next : (files : List File) (terms : Terms) (text ahead : Option (List ℕ)) (start : ℕ) (records rs : List Record) (arrivals : List Arrival) (old new : List SeatState) (origins : List Origin) (decider : Decider) (p : Progress) (v : Version)
+pub come_next : (files : List File) (terms : Terms) (text ahead : Option (List ℕ)) (start : ℕ) (records rs : List Record) (arrivals : List Arrival) (old new : List QueueState) (origins : List Origin) (decider : Decider) (p : Progress) (v : Version)
     → Serves files terms records arrivals (connections_of old) decider → Waiting [] old → Adds rs old new → origins ≡ origins_after records rs → ReaderAfter v text start (records ++ rs) p ahead → start ≡ decider.start
     → ComeNext files terms records rs arrivals new origins decider
 come_next files terms text ahead start records rs arrivals old new origins decider p v serves idle adds from fits begun = record {
-  serves = serves_same files terms records arrivals old new decider (λ c. ap (λ (q : SeatState). q.connection) (adds c)) serves;
+  serves = serves_same files terms records arrivals old new decider (λ c. ap (λ (q : QueueState). q.connection) (adds c)) serves;
   waiting = λ c. (
-    ap (λ (q : SeatState). q.waiting) (adds c) ∙ ap (λ xs. xs ++ sent_to c rs) (idle c).0,
-    ap (λ (q : SeatState). q.lists) (adds c) ∙ (idle c).1,
+    ap (λ (q : QueueState). q.waiting) (adds c) ∙ ap (λ xs. xs ++ sent_to c rs) (idle c).0,
+    ap (λ (q : QueueState). q.lists) (adds c) ∙ (idle c).1,
   );
   origins_are = from;
   version = v;
   rules = rw begun at fits.rules;
-  small = (let h = fits.room in omega (arith, h, within_longest v));
+  small = (let h = fits.capacity in omega (arith, h, within_longest v));
 }
 
 -- ---- cutting
@@ -110,41 +110,41 @@ sent_none c (End tick conn ∷ rs) high low = elim (eqb_tells conn c) [
 sent_none c (Tier conn tier ∷ rs) high low = sent_none c rs high (All-tail IsLow (Tier conn tier) rs low)
 
 -- the records that come next have numbers of 16 bits, and so have those before them
-next_low : (files : List File) (terms : Terms) (records rs : List Record) (arrivals : List Arrival) (places : List SeatState) (origins : List Origin) (decider : Decider) → ComeNext files terms records rs arrivals places origins decider → All IsLow (records ++ rs)
+next_low : (files : List File) (terms : Terms) (records rs : List Record) (arrivals : List Arrival) (places : List QueueState) (origins : List Origin) (decider : Decider) → ComeNext files terms records rs arrivals places origins decider → All IsLow (records ++ rs)
 next_low files terms records rs arrivals places origins decider next = all_low next.version (records ++ rs) next.rules.each
 
 rest_low : (records rs : List Record) → All IsLow (records ++ rs) → All IsLow rs
 rest_low [] rs low = low
 rest_low (r ∷ records) rs low = rest_low records rs (All-tail IsLow r (records ++ rs) low)
 
-pub all_ready : (files : List File) (terms : Terms) (records rs : List Record) (arrivals : List Arrival) (places : List SeatState) (origins : List Origin) (decider : Decider)
+pub all_ready : (files : List File) (terms : Terms) (records rs : List Record) (arrivals : List Arrival) (places : List QueueState) (origins : List Origin) (decider : Decider)
     → ComeNext files terms records rs arrivals places origins decider → All IsReady places
 all_ready files terms records rs arrivals places origins decider next = λ k d lt.
-    let same : seat_at places k ≡ get_or places k d = get_or_default places k _ d lt in
+    let same : queued_at places k ≡ get_or places k d = get_or_default places k _ d lt in
     let more = total_below k rs in
     let sum = sum_by-append size_of records rs in
     let small = next.small in
-    let at : (seat_at places k).waiting ≡ sent_to k rs = (next.waiting k).0 in
+    let at : (queued_at places k).waiting ≡ sent_to k rs = (next.waiting k).0 in
     subst IsReady same (record { can = λ some. rw at (can k (omega (arith, more, sum, small)) (subst (λ (w : List Sent). 0 < length w) at some)); fresh = (next.waiting k).1 })
   where
     low : All IsLow rs
     low = rest_low records rs (next_low files terms records rs arrivals places origins decider next)
 
-    can : (k : ℕ) → sizes_of records + total (sent_to k rs) ≤ longest_text → 0 < length (sent_to k rs) → CanRead (seat_at places k).connection (sent_to k rs)
-    can k room some = elim (cases_lt k 65536) [
+    can : (k : ℕ) → sizes_of records + total (sent_to k rs) ≤ longest_text → 0 < length (sent_to k rs) → CanRead (queued_at places k).connection (sent_to k rs)
+    can k capacity some = elim (cases_lt k 65536) [
       | inl number ↦
           (let below = now_below k records in
           record {
             text = text_now k records;
             ms = messages_now k records arrivals;
             has = rw (← connection_of places k) (next.serves.reads.each k number);
-            room = omega (arith, below, room);
+            capacity = omega (arith, below, capacity);
           })
       | inr high ↦ absurd (let none = ap length (sent_none k rs high low) in omega (arith, none, some))
     ]
 
 -- a place of the cut connections
-cut_at : (places cut : List SeatState) (c : ℕ) → AllZip IsCutOf places cut → IsCutOf (seat_at places c) (seat_at cut c)
+cut_at : (places cut : List QueueState) (c : ℕ) → AllZip IsCutOf places cut → IsCutOf (queued_at places c) (queued_at cut c)
 cut_at [] [] zero h = record { reads = refl; done = refl }
 cut_at [] [] (suc c) h = record { reads = refl; done = refl }
 cut_at [] (q ∷ cut) c h = absurd h
@@ -184,17 +184,17 @@ pieces_count c earlier (End tick conn ∷ rs) = go (conn == c) ∙ pieces_count 
     go false = refl
 pieces_count c earlier (Tier conn tier ∷ rs) = pieces_count c (earlier ++ Tier conn tier ∷ []) rs
 
-pub lists_count : (files : List File) (terms : Terms) (records rs : List Record) (arrivals : List Arrival) (places cut : List SeatState) (origins : List Origin) (decider : Decider)
-    → ComeNext files terms records rs arrivals places origins decider → AllZip IsCutOf places cut → (c : ℕ) → length (seat_at cut c).lists ≡ count_to c origins
+pub lists_count : (files : List File) (terms : Terms) (records rs : List Record) (arrivals : List Arrival) (places cut : List QueueState) (origins : List Origin) (decider : Decider)
+    → ComeNext files terms records rs arrivals places origins decider → AllZip IsCutOf places cut → (c : ℕ) → length (queued_at cut c).lists ≡ count_to c origins
 lists_count files terms records rs arrivals places cut origins decider next cuts c =
     let own = cut_at places cut c cuts in
-    reads_count _ _ (seat_at places c).waiting (seat_at cut c).lists own.reads ∙ ap pieces_in (next.waiting c).0 ∙ pieces_count c records rs ∙ ap (count_to c) (sym next.origins_are)
+    reads_count _ _ (queued_at places c).waiting (queued_at cut c).lists own.reads ∙ ap pieces_in (next.waiting c).0 ∙ pieces_count c records rs ∙ ap (count_to c) (sym next.origins_are)
 
 -- nothing waits once the lists were taken
-pub none_wait : (places cut after : List SeatState) → AllZip IsCutOf places cut → ((c : ℕ) → seat_at after c ≡ with_lists [] (seat_at cut c)) → Waiting [] after
+pub none_wait : (places cut after : List QueueState) → AllZip IsCutOf places cut → ((c : ℕ) → queued_at after c ≡ with_lists [] (queued_at cut c)) → Waiting [] after
 none_wait places cut after cuts taken = λ c. (
-  ap (λ (q : SeatState). q.waiting) (taken c) ∙ (cut_at places cut c cuts).done,
-  ap (λ (q : SeatState). q.lists) (taken c),
+  ap (λ (q : QueueState). q.waiting) (taken c) ∙ (cut_at places cut c cuts).done,
+  ap (λ (q : QueueState). q.lists) (taken c),
 )
 
 -- ---- messages in the order of their arrival
@@ -268,9 +268,9 @@ last_low [] all = omega arith
 last_low (x ∷ xs) all = all (length (x ∷ xs) - 1) 0 (omega arith)
 
 tier_low : (c : ℕ) (records : List Record) → All InLimits records → tier_of c records ≤ 3
-tier_low c records h = last_low (flat_map (tier_given c) records) (go records h)
+tier_low c records h = last_low (flat_map (tier_set c) records) (go records h)
   where
-    one : (r : Record) → InLimits r → All (λ t. t ≤ 3) (tier_given c r)
+    one : (r : Record) → InLimits r → All (λ t. t ≤ 3) (tier_set c r)
     one (Piece tick conn bytes) h = All-nil (λ t. t ≤ 3)
     one (End tick conn) h = All-nil (λ t. t ≤ 3)
     one (Tier conn tier) h = elim (eqb_tells conn c) [
@@ -278,9 +278,9 @@ tier_low c records h = last_low (flat_map (tier_given c) records) (go records h)
       | inr other ↦ rw other.0 (All-nil (λ t. t ≤ 3))
     ]
 
-    go : (records : List Record) → All InLimits records → All (λ t. t ≤ 3) (flat_map (tier_given c) records)
+    go : (records : List Record) → All InLimits records → All (λ t. t ≤ 3) (flat_map (tier_set c) records)
     go [] h = All-nil (λ t. t ≤ 3)
-    go (r ∷ records) h = All-append (λ t. t ≤ 3) (tier_given c r) (flat_map (tier_given c) records) (one r (All-head InLimits r records h)) (go records (All-tail InLimits r records h))
+    go (r ∷ records) h = All-append (λ t. t ≤ 3) (tier_set c r) (flat_map (tier_set c) records) (one r (All-head InLimits r records h)) (go records (All-tail InLimits r records h))
 
 pub in_time : (v : Version) (start : ℕ) (records : List Record) (arrivals more : List Arrival) → IsCapture v start records → AreArrivals (used_once records) (arrivals ++ more) → InTime arrivals more
 in_time v start records arrivals [] rules arrived = tt
@@ -321,19 +321,19 @@ in_time v start records arrivals (a ∷ more) rules arrived = (
 
 -- ---- what a batch brings
 
-pub record Brings (files : List File) (terms : Terms) (records rs : List Record) (arrivals : List Arrival) (decider : Decider) (after : List SeatState) (messages : List Incoming) : Type 0 where
+pub record Brings (files : List File) (terms : Terms) (records rs : List Record) (arrivals : List Arrival) (decider : Decider) (after : List QueueState) (messages : List Incoming) : Type 0 where
   pub more : List Arrival
   pub reads : HaveRead (records ++ rs) (arrivals ++ more) (connections_of after)
   pub arrived : AreArrivals (used_once (records ++ rs)) (arrivals ++ more)
   pub up : Upcoming files terms arrivals more messages decider
 
-pub brings : (files : List File) (terms : Terms) (records rs : List Record) (arrivals : List Arrival) (places cut after : List SeatState) (origins : List Origin) (pieces : List PieceMessages) (messages : List Incoming) (decider : Decider)
+pub brings : (files : List File) (terms : Terms) (records rs : List Record) (arrivals : List Arrival) (places cut after : List QueueState) (origins : List Origin) (pieces : List PieceMessages) (messages : List Incoming) (decider : Decider)
     → ComeNext files terms records rs arrivals places origins decider → AllZip IsCutOf places cut → map (λ p. p.origin) pieces ≡ origins
-    → ((c : ℕ) → (seat_at cut c).lists ≡ lists_to c origins (map (λ p. p.messages) pieces)) → ((c : ℕ) → seat_at after c ≡ with_lists [] (seat_at cut c))
+    → ((c : ℕ) → (queued_at cut c).lists ≡ lists_to c origins (map (λ p. p.messages) pieces)) → ((c : ℕ) → queued_at after c ≡ with_lists [] (queued_at cut c))
     → messages ≡ flat_map incoming_from pieces → Brings files terms records rs arrivals decider after messages
 brings files terms records rs arrivals places cut after origins pieces messages decider next cuts from found taken are = record {
   more = more;
-  reads = record { each = λ c low. rw (connection_of after c, ap (λ (q : SeatState). q.connection) (taken c)) (stand.each c low) };
+  reads = record { each = λ c low. rw (connection_of after c, ap (λ (q : QueueState). q.connection) (taken c)) (stand.each c low) };
   arrived = stand.arrived;
   up = record {
     stands = next.serves.stands;
@@ -351,15 +351,15 @@ brings files terms records rs arrivals places cut after origins pieces messages 
     count : length lists ≡ length (origins_after records rs)
     count = length-map pieces _ ∙ sym (length-map pieces (λ p. p.origin)) ∙ ap length (from ∙ next.origins_are)
 
-    reading : (c : ℕ) → ReadsOn (seat_at places c).connection (sent_to c rs) (lists_to c (origins_after records rs) lists) (seat_at cut c).connection
+    reading : (c : ℕ) → ReadsOn (queued_at places c).connection (sent_to c rs) (lists_to c (origins_after records rs) lists) (queued_at cut c).connection
     reading c = rw ((next.waiting c).0, found c, next.origins_are) at (cut_at places cut c cuts).reads
 
-    stand : Stand (records ++ rs) (arrivals ++ more) (λ c. (seat_at cut c).connection)
-    stand = stand_batch rs lists records arrivals (λ c. (seat_at places c).connection) (λ c. (seat_at cut c).connection) (next_low files terms records rs arrivals places origins decider next) count
+    stand : Stand (records ++ rs) (arrivals ++ more) (λ c. (queued_at cut c).connection)
+    stand = stand_batch rs lists records arrivals (λ c. (queued_at places c).connection) (λ c. (queued_at cut c).connection) (next_low files terms records rs arrivals places origins decider next) count
         (record { each = λ c low. rw (← connection_of places c) (next.serves.reads.each c low); arrived = next.serves.arrived }) reading
 
--- no seat is taken yet
-pub waits_none : (places : List SeatState) → places ≡ [] → Waiting [] places
+-- no queue is taken yet
+pub waits_none : (places : List QueueState) → places ≡ [] → Waiting [] places
 waits_none places none = rw none at_none
   where
     at_none : Waiting [] []

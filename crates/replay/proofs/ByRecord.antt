@@ -23,7 +23,7 @@ use Rattle.captures.proofs.Lines.{within_longest}
 use Rattle.captures.specs.Captures.{size_of, sizes_of}
 use Rattle.captures.specs.Readers.{ReaderAfter, Gave, FailsFirst, FailsNext}
 use Rattle.captures.proofs.PassLemmas.{reads_of}
-use Rattle.arrivals.specs.Connections.{AreTiers, HasRead, HasRoom, ReadMore, HaveRead, IsNumber, connection_at}
+use Rattle.arrivals.specs.Connections.{AreTiers, HasRead, HasCapacity, ReadMore, HaveRead, IsNumber, connection_at}
 use Rattle.arrivals.specs.Connections.{text_now, messages_now, arrivals_with}
 use Rattle.arrivals.specs.Batches.{Reads, Stand, origin_now}
 use Rattle.http_requests.specs.declared.messages.Message.{Message}
@@ -42,7 +42,7 @@ use Rattle.replay.specs.Serving.{DeciderAfter, AreBy, IsLater, Serves, Written, 
 use Rattle.reference.specs.Texts.{Texts, AreTexts, Wrote, WroteInPart, reply_texts}
 use Rattle.devices.specs.Reference.{WhereKnown}
 use Rattle.reference.specs.Outcomes.{IfTooMany, IfCutShort, IsOwn, IsCutOff, StopsBeyond, StopsFull, StopsWriting, Stops, Taken, Leaves}
-use Rattle.captures.specs.Passes.{pass_fault, IsWriteOrMemory, leaves_reads_untold, reader_failures}
+use Rattle.captures.specs.Passes.{pass_fault, IsWriteOrMemory, leaves_reads_unreported, reader_failures}
 use Rattle.captures.proofs.PassLemmas.{leaves_by, leaves_part, reported_reads}
 use Rattle.arrivals.proofs.CutBatches.{room_of}
 use Rattle.arrivals.proofs.Merging.{stand_none, stand_piece, stand_end, stand_tier}
@@ -86,10 +86,10 @@ pub now_below : (c : ℕ) (records : List Record) → length (text_now c records
 now_below c records = omega (arith, text_below (connection_now c records) (used_once records), sizes_once records)
 
 pub has_room : (files : List File) (terms : Terms) (records : List Record) (arrivals : List Arrival) (connections : List Connection) (decider : Decider) (c n : ℕ) → IsNumber c
-    → Serves files terms records arrivals connections decider → sizes_of records + n ≤ longest_text → HasRoom (connection_at connections c) n
-has_room files terms records arrivals connections decider c n low serves room =
+    → Serves files terms records arrivals connections decider → sizes_of records + n ≤ longest_text → HasCapacity (connection_at connections c) n
+has_room files terms records arrivals connections decider c n low serves capacity =
     let below = now_below c records in
-    room_of (connection_at connections c) (text_now c records) (messages_now c records arrivals) n (serves.reads.each c low) (omega (arith, below, room))
+    room_of (connection_at connections c) (text_now c records) (messages_now c records arrivals) n (serves.reads.each c low) (omega (arith, below, capacity))
 
 -- ---- ticks
 
@@ -297,9 +297,9 @@ record_is v text now start records p r h =
     let lt : length records < length (records ++ r ∷ []) = let l = length-append records (r ∷ []) in omega (arith, l) in
     rw (get_or-append_seam records r [] r) at (h.rules.each (length records) r lt)
 
-pub sizes_left : (v : Version) (text now : Option (List ℕ)) (start room : ℕ) (records : List Record) (p : Progress) (r : Record) → ReaderAfter v text start records p now
-    → size_of r + 1 + room ≡ p.room → sizes_of records + size_of r ≤ longest_text
-sizes_left v text now start room records p r fits e = let h = fits.room in omega (arith, h, e, within_longest v)
+pub sizes_left : (v : Version) (text now : Option (List ℕ)) (start capacity : ℕ) (records : List Record) (p : Progress) (r : Record) → ReaderAfter v text start records p now
+    → size_of r + 1 + capacity ≡ p.capacity → sizes_of records + size_of r ≤ longest_text
+sizes_left v text now start capacity records p r fits e = let h = fits.capacity in omega (arith, h, e, within_longest v)
 
 -- what the reader's answer says
 pub gave_end : (v : Version) (text now : Option (List ℕ)) (start : ℕ) (records : List Record) (p : Progress) (x : Option Record) → x ≡ None → Gave v text start records (Ok x) p now
@@ -325,7 +325,7 @@ pub all_written : (t : Texts) (files : List File) (terms : Terms) (v : Version) 
     → Serves files terms records arrivals connections decider
     → Appends old mid (t.so_far start arrivals) → Appends mid new (t.last count) → count ≡ decider.totals.answered
     → decider.totals.answered ≤ (format_of v).max_messages → outcome.version ≡ v → outcome.rejected ≡ decider.totals.rejected → outcome.summary ≡ summary_of files terms arrivals → WritesWhole t files terms input old new outcome
-all_written t files terms v start count records arrivals connections decider input old mid new outcome laws rules capture serves before last counted most version rejected given_by = record {
+all_written t files terms v start count records arrivals connections decider input old mid new outcome laws rules capture serves before last counted most version rejected response_of = record {
   read = record {
     capture = record { version = v; start = start; records = records; rules = rules; text = capture };
     arrivals = arrivals;
@@ -333,7 +333,7 @@ all_written t files terms v start count records arrivals connections decider inp
     few = within_most files terms v arrivals decider serves.stands most;
   };
   written = text_ended t start count arrivals old mid new laws (counted ∙ answered_is files terms arrivals decider serves.stands.counted) before last;
-  outcome_is = same_outcome outcome (outcome_of v files terms arrivals) version (rejected ∙ ap (λ t. t.rejected) serves.stands.counted.totals) given_by;
+  outcome_is = same_outcome outcome (outcome_of v files terms arrivals) version (rejected ∙ ap (λ t. t.rejected) serves.stands.counted.totals) response_of;
 }
 
 -- the last line was not
@@ -451,9 +451,9 @@ cut_part t v input now old mid new start most records arrivals rs p laws fits wr
     }))
 
 -- a reader that failed is reported
-pub blamed_reported : (old new : ℕ) (f : CaptureFault) (r : PassFault) → r ≡ pass_fault f → new ≡ old + failures_of f.kind
-    → (new ≡ old + reader_failures r) ⊎ ((leaves_reads_untold r ≡ true) × (new ≡ old + 1))
-blamed_reported old new f r is count =
+pub failures_reported : (old new : ℕ) (f : CaptureFault) (r : PassFault) → r ≡ pass_fault f → new ≡ old + failures_of f.kind
+    → (new ≡ old + reader_failures r) ⊎ ((leaves_reads_unreported r ≡ true) × (new ≡ old + 1))
+failures_reported old new f r is count =
     let same : reader_failures r ≡ failures_of f.kind = ap reader_failures is ∙ reported_reads f in
     inl (omega (arith, same, count))
 
@@ -475,9 +475,9 @@ pub answers_all : (files : List File) (terms : Terms) (v : Version) (start count
     → Serves files terms records arrivals connections decider
     → Appends old mid (text_before_stop (replies_of files terms start (handled files terms arrivals))) → Appends mid new (last_line count) → count ≡ decider.totals.answered
     → decider.totals.answered ≤ (format_of v).max_messages → outcome.version ≡ v → outcome.rejected ≡ decider.totals.rejected → outcome.summary ≡ summary_of files terms arrivals → Answers files terms input old new outcome
-answers_all files terms v start count records arrivals connections decider input old mid new outcome rules capture serves before last counted most version rejected given_by =
+answers_all files terms v start count records arrivals connections decider input old mid new outcome rules capture serves before last counted most version rejected response_of =
     has_answered files terms input old new outcome
-    (all_written (reply_texts files terms) files terms v start count records arrivals connections decider input old mid new outcome (replies_laws files terms) rules capture serves before last counted most version rejected given_by)
+    (all_written (reply_texts files terms) files terms v start count records arrivals connections decider input old mid new outcome (replies_laws files terms) rules capture serves before last counted most version rejected response_of)
 
 pub ends_in_part : (files : List File) (terms : Terms) (v : Version) (start count : ℕ) (records : List Record) (arrivals : List Arrival) (connections : List Connection) (decider : Decider)
     (input old mid new : Option (List ℕ)) → IsCapture v start records → WhereKnown input (λ bytes. IsCaptureText v bytes start records)

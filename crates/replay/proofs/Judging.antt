@@ -12,15 +12,15 @@ use Rattle.admission.specs.After.{ControllerAfter}
 use Rattle.responses.specs.declared.slip.Persistence.{Persistence}
 use Rattle.responses.specs.declared.slip.Slip.{Slip}
 use Rattle.responses.specs.Reference.{status_of, reply_text, record_text}
-use Rattle.reference.specs.Reference.{station_for, Choice, Terms, tick_in, given, answers_head, is_head, persistence_of, outcome_answer, slip_of, offer_at, offers_of, is_turned_away, handled_next, handled_after, handled, bypassed_of, samples_of, breaks_a_rule}
+use Rattle.reference.specs.Reference.{station_for, Choice, Terms, tick_in, response, answers_head, is_head, persistence_of, outcome_answer, slip_of, offer_at, offers_of, is_turned_away, handled_next, handled_after, handled, bypassed_of, samples_of, breaks_a_rule}
 use Rattle.arrivals.specs.Reference.{Arrival}
 use Rattle.paths.specs.Reference.{asked, outcome}
 use Rattle.paths.specs.declared.file.File.{File}
 use Rattle.paths.specs.declared.resolution.Outcome.{Outcome}
 use Rattle.http_requests.specs.declared.messages.HttpVersion.{HttpVersion}
 use Rattle.http_requests.specs.declared.messages.Meaning.TheVariants.{Request, Bad}
-use Rattle.responses.specs.declared.slip.Given.{Given}
-use Rattle.responses.specs.declared.slip.Given.TheVariants.{Plain}
+use Rattle.responses.specs.declared.slip.ResponseKind.{ResponseKind}
+use Rattle.responses.specs.declared.slip.ResponseKind.TheVariants.{Plain}
 use Rattle.responses.specs.declared.slip.Status.TheVariants.{ServiceUnavailable}
 use Rattle.captures.specs.Passes.{IsWriteOrMemory}
 use Rattle.reference.specs.Outcomes.{IfCutShort, IfTooMany}
@@ -59,9 +59,9 @@ pub decides_admitted : (offers : List Offer) (offer : Offer) (finish : ℕ) (dec
     → new ≡ record { start = old.start; controller = controller; totals = decided_totals old.totals (old.totals.samples ++ (finish - offer.tick + offer.delay) ∷ []) false }
     → Decides offers (offer ∷ []) old new false
 unfolding tick_from
-decides_admitted offers offer finish decision old new controller is e rules fits clock samples given_by =
+decides_admitted offers offer finish decision old new controller is e rules fits clock samples response_of =
     let own : Admitted finish ≡ decide (station_of old.controller) (decided (station_of old.controller) offers) offer = sym is ∙ e in
-    rw given_by (record {
+    rw response_of (record {
       station = rules;
       fits = fits;
       is_away = is_admitted_one (station_of old.controller) offers offer finish own;
@@ -76,9 +76,9 @@ pub decides_rejected : (offers : List Offer) (offer : Offer) (decision : Decisio
     → new ≡ record { start = old.start; controller = controller; totals = decided_totals old.totals old.totals.samples true }
     → Decides offers (offer ∷ []) old new true
 unfolding tick_from
-decides_rejected offers offer decision old new controller is e rules fits clock samples given_by =
+decides_rejected offers offer decision old new controller is e rules fits clock samples response_of =
     let own : Rejected ≡ decide (station_of old.controller) (decided (station_of old.controller) offers) offer = sym is ∙ e in
-    rw given_by (record {
+    rw response_of (record {
       station = rules;
       fits = fits;
       is_away = is_rejected_one (station_of old.controller) offers offer own;
@@ -106,14 +106,14 @@ pub decider_rejected : (decider : Decider) (controller : Standing) (rejected : L
 decider_rejected decider controller rejected e = rw e refl
 
 -- a request that was turned away is answered so, another is answered by its outcome
-pub given_away : (X : Type 0) (files : List File) (choice : Choice) (what : Meaning) (seconds : ℕ) (given_by : Given X) → seconds ≡ choice.served.retry_after → given_by ≡ Plain (ServiceUnavailable seconds)
-    → given_by ≡ given files choice.served true what
-given_away X files choice what seconds given_by e is = is ∙ rw e refl
+pub given_away : (X : Type 0) (files : List File) (choice : Choice) (what : Meaning) (seconds : ℕ) (response_of : ResponseKind X) → seconds ≡ choice.served.retry_after → response_of ≡ Plain (ServiceUnavailable seconds)
+    → response_of ≡ response files choice.served true what
+given_away X files choice what seconds response_of e is = is ∙ rw e refl
 
-pub given_answer : (X : Type 0) (snapshot files : List File) (choice : Choice) (what : Meaning) (method target : List ℕ) (version : HttpVersion) (closing : Bool) (since : Option ℕ) (o : Outcome) (head : Bool) (given_by : Given X)
+pub given_answer : (X : Type 0) (snapshot files : List File) (choice : Choice) (what : Meaning) (method target : List ℕ) (version : HttpVersion) (closing : Bool) (since : Option ℕ) (o : Outcome) (head : Bool) (response_of : ResponseKind X)
     → snapshot ≡ files → what ≡ Request method target version closing since → o ≡ outcome snapshot (asked method target) → head ≡ answers_head what
-    → given_by ≡ outcome_answer files head since o → given_by ≡ given files choice.served false what
-given_answer X snapshot files choice what method target version closing since o head given_by same is found heads e =
+    → response_of ≡ outcome_answer files head since o → response_of ≡ response files choice.served false what
+given_answer X snapshot files choice what method target version closing since o head response_of same is found heads e =
     let own : head ≡ is_head method = heads ∙ ap answers_head is in
     e ∙ rw (is, found, same, own) refl
 
@@ -125,7 +125,7 @@ if_ok (Err e) P Q f h = tt
 
 -- the totals of one more message
 totals_more : (files : List File) (terms : Terms) (arrivals : List Arrival) (a : Arrival) (away : Bool) → away ≡ is_turned_away files terms arrivals a
-    → with_reply (decided_totals (totals_of files terms arrivals) (samples_of (station_for terms) (offers_of files terms arrivals ++ offer_at files terms a.origin a.message.what)) away) (status_of (given {X = Unit {0}} files terms away a.message.what)) (breaks_a_rule a.message.what)
+    → with_reply (decided_totals (totals_of files terms arrivals) (samples_of (station_for terms) (offers_of files terms arrivals ++ offer_at files terms a.origin a.message.what)) away) (status_of (response {X = Unit {0}} files terms away a.message.what)) (breaks_a_rule a.message.what)
     ≡ totals_of files terms (arrivals ++ a ∷ [])
 totals_more files terms arrivals a away e =
     let len : length (arrivals ++ a ∷ []) ≡ length arrivals + 1 = length-append arrivals (a ∷ []) in
@@ -159,17 +159,17 @@ later_more terms arrivals a clock by tick all = λ counted counts.
 pub stands_more : (files : List File) (terms : Terms) (arrivals : List Arrival) (a : Arrival) (away : Bool) (old mid new : Decider) (status : ℕ) → Counted files terms arrivals old
     → IsOnTime terms.speed a.origin.tick old.controller.clock
     → Decides (offers_of files terms arrivals) (offer_at files terms a.origin a.message.what) old mid away
-    → status ≡ status_of (given {X = Unit {0}} files terms away a.message.what)
+    → status ≡ status_of (response {X = Unit {0}} files terms away a.message.what)
     → new.controller ≡ mid.controller → new.totals ≡ with_reply mid.totals status (breaks_a_rule a.message.what)
     → length arrivals < 536870912 → DeciderAfter files terms (arrivals ++ a ∷ []) new
-stands_more files terms arrivals a away old mid new status stands by decides given_by same counted few =
+stands_more files terms arrivals a away old mid new status stands by decides response_of same counted few =
     let away_is : away ≡ is_turned_away files terms arrivals a = rw stands.station at decides.is_away in
     let passed = clock_more files terms a a.message.what _ _ by (ap (λ c. c.clock) same ∙ decides.clock) in
     record {
       counted = record {
         station = ap station_of same ∙ decides.station ∙ stands.station;
         fits = rw (same, offers_more files terms arrivals a) decides.fits;
-        totals = counted ∙ rw (decides.totals, stands.totals, stands.station, given_by) (totals_more files terms arrivals a away away_is);
+        totals = counted ∙ rw (decides.totals, stands.totals, stands.station, response_of) (totals_more files terms arrivals a away away_is);
         few = let len = length-append arrivals (a ∷ []) in omega (arith, len, few);
       };
       clock = later_more terms arrivals a new.controller.clock passed;
@@ -205,40 +205,40 @@ bypassed_room files terms arrivals decider n stands lt =
 -- ---- one message at the decider
 
 -- what the decider has made of a message that is answered this
-abbrev pub Judged : {X : Type 0} → List File → Terms → List Offer → Origin → Meaning → Decider → Decider → Given X → Type 0
-Judged files terms offers origin what old mid given_by = (away : Bool) × Decides offers (offer_at files terms origin what) old mid away × (given_by ≡ given files terms away what)
+abbrev pub Judged : {X : Type 0} → List File → Terms → List Offer → Origin → Meaning → Decider → Decider → ResponseKind X → Type 0
+Judged files terms offers origin what old mid response_of = (away : Bool) × Decides offers (offer_at files terms origin what) old mid away × (response_of ≡ response files terms away what)
 
-pub counts_kept : (X : Type 0) (files : List File) (terms : Terms) (arrivals : List Arrival) (origin : Origin) (what : Meaning) (old mid : Decider) (given_by : Given X) (n : ℕ) → Counted files terms arrivals old
-    → Judged files terms (offers_of files terms arrivals) origin what old mid given_by → length arrivals < n → AreBelow n mid.totals.counts × (mid.totals.bypassed < n) × (mid.totals.answered ≡ old.totals.answered)
-counts_kept X files terms arrivals origin what old mid given_by n stands judged lt =
+pub counts_kept : (X : Type 0) (files : List File) (terms : Terms) (arrivals : List Arrival) (origin : Origin) (what : Meaning) (old mid : Decider) (response_of : ResponseKind X) (n : ℕ) → Counted files terms arrivals old
+    → Judged files terms (offers_of files terms arrivals) origin what old mid response_of → length arrivals < n → AreBelow n mid.totals.counts × (mid.totals.bypassed < n) × (mid.totals.answered ≡ old.totals.answered)
+counts_kept X files terms arrivals origin what old mid response_of n stands judged lt =
     let kept = judged.1.totals in (
       rw kept (counts_room files terms arrivals old n stands lt),
       rw kept (bypassed_room files terms arrivals old n stands lt),
       ap (λ t. t.answered) kept,
     )
 
-pub stands_after : (X : Type 0) (files : List File) (terms : Terms) (arrivals : List Arrival) (a : Arrival) (origin : Origin) (what : Meaning) (old mid : Decider) (totals : Totals) (given_by : Given X) → Counted files terms arrivals old → IsOnTime terms.speed a.origin.tick old.controller.clock
-    → a.origin ≡ origin → a.message.what ≡ what → old.totals.answered < 536870912 → Judged files terms (offers_of files terms arrivals) origin what old mid given_by
-    → totals ≡ with_reply mid.totals (status_of given_by) (breaks_a_rule what)
+pub stands_after : (X : Type 0) (files : List File) (terms : Terms) (arrivals : List Arrival) (a : Arrival) (origin : Origin) (what : Meaning) (old mid : Decider) (totals : Totals) (response_of : ResponseKind X) → Counted files terms arrivals old → IsOnTime terms.speed a.origin.tick old.controller.clock
+    → a.origin ≡ origin → a.message.what ≡ what → old.totals.answered < 536870912 → Judged files terms (offers_of files terms arrivals) origin what old mid response_of
+    → totals ≡ with_reply mid.totals (status_of response_of) (breaks_a_rule what)
     → DeciderAfter files terms (arrivals ++ a ∷ []) (record { start = mid.start; controller = mid.controller; totals = totals })
-stands_after X files terms arrivals a origin what old mid totals given_by stands by from meaning room judged counted =
+stands_after X files terms arrivals a origin what old mid totals response_of stands by from meaning capacity judged counted =
     let e = answered_is files terms arrivals old stands in
-    let status : status_of given_by ≡ status_of (given {X = Unit {0}} files terms judged.0 a.message.what) = rw (judged.2, meaning) (status_same X (Unit {0}) files terms judged.0 what) in
-    stands_more files terms arrivals a judged.0 old mid _ (status_of given_by) stands by (rw (from, meaning) judged.1) status refl (rw meaning counted) (omega (arith, e, room))
+    let status : status_of response_of ≡ status_of (response {X = Unit {0}} files terms judged.0 a.message.what) = rw (judged.2, meaning) (status_same X (Unit {0}) files terms judged.0 what) in
+    stands_more files terms arrivals a judged.0 old mid _ (status_of response_of) stands by (rw (from, meaning) judged.1) status refl (rw meaning counted) (omega (arith, e, capacity))
 
-pub slip_is : (X : Type 0) (files : List File) (terms : Terms) (start : ℕ) (arrivals : List Arrival) (a : Arrival) (origin : Origin) (what : Meaning) (old mid : Decider) (given_by : Given X) (conn : ℕ) (head : Bool) (link : Persistence) (slip : Slip X)
-    → Counted files terms arrivals old → a.origin ≡ origin → a.message.what ≡ what → Judged files terms (offers_of files terms arrivals) origin what old mid given_by
+pub slip_is : (X : Type 0) (files : List File) (terms : Terms) (start : ℕ) (arrivals : List Arrival) (a : Arrival) (origin : Origin) (what : Meaning) (old mid : Decider) (response_of : ResponseKind X) (conn : ℕ) (head : Bool) (link : Persistence) (slip : Slip X)
+    → Counted files terms arrivals old → a.origin ≡ origin → a.message.what ≡ what → Judged files terms (offers_of files terms arrivals) origin what old mid response_of
     → conn ≡ origin.conn → head ≡ answers_head what → link ≡ persistence_of what
-    → slip ≡ record { number = old.totals.answered; conn = conn; date = start + tick_in terms origin / 1000000; head = head; link = link; what = given_by }
+    → slip ≡ record { number = old.totals.answered; conn = conn; date = start + tick_in terms origin / 1000000; head = head; link = link; what = response_of }
     → slip ≡ slip_of files terms start (handled_next files terms arrivals a)
-slip_is X files terms start arrivals a origin what old mid given_by conn head link slip stands from meaning judged conns heads links slips =
+slip_is X files terms start arrivals a origin what old mid response_of conn head link slip stands from meaning judged conns heads links slips =
     let away_is : judged.0 ≡ is_turned_away files terms arrivals a = rw (from, meaning) (rw stands.station at judged.1.is_away) in
     slips ∙ rw (answered_is files terms arrivals old stands, conns, heads, links, judged.2, away_is, from, meaning) refl
 
 -- what a message's reply has written
 pub reply_written : (X : Type 0) (files : List File) (terms : Terms) (start : ℕ) (arrivals : List Arrival) (a : Arrival) (slip : Slip X) (r : ℕ × ℕ × List ℕ) → slip ≡ slip_of files terms start (handled_next files terms arrivals a)
     → r ≡ (slip.number, slip.conn, reply_text files slip) → record_text r ≡ records_after files terms start arrivals (a ∷ [])
-reply_written X files terms start arrivals a slip r slips given_by = ap record_text (reply_is files terms start (handled_next files terms arrivals a) slip r slips given_by) ∙ sym (records_one files terms start arrivals a)
+reply_written X files terms start arrivals a slip r slips response_of = ap record_text (reply_is files terms start (handled_next files terms arrivals a) slip r slips response_of) ∙ sym (records_one files terms start arrivals a)
 
 -- ---- faults
 

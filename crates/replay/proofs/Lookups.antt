@@ -7,13 +7,13 @@ use Rattle.replay.specs.declared.back.BackState.{BackState}
 use Rattle.replay.specs.declared.back.BackState.TheVariants.{Pending, Fetched, Rendered}
 use Rattle.responses.specs.declared.slip.Persistence.{Persistence}
 use Rattle.responses.specs.declared.slip.Slip.{Slip}
-use Rattle.responses.specs.declared.slip.Given.{Given}
-use Rattle.responses.specs.declared.slip.Given.TheVariants as givens
+use Rattle.responses.specs.declared.slip.ResponseKind.{ResponseKind}
+use Rattle.responses.specs.declared.slip.ResponseKind.TheVariants as givens
 use Rattle.responses.specs.Reference.{reply_text}
 use Rattle.responses.specs.Replies.{OnlyHead, HasLocation}
 use Rattle.replay.specs.declared.pending.PendingAnswer.{PendingAnswer}
 use Rattle.replay.specs.declared.pending.PendingAnswer.TheVariants.{Page, Ready}
-use Rattle.replay.specs.Backs.{only_head, has_location, can_render, is_answer, is_back, reply_in, reply_to, back_after, back_step, slip_of_pending, given_by, given_elsewhere, answer_elsewhere, pending_elsewhere, slip_elsewhere, elsewhere}
+use Rattle.replay.specs.Backs.{only_head, has_location, can_render, is_answer, is_back, reply_in, reply_to, back_after, back_step, slip_of_pending, response_of, response_elsewhere, answer_elsewhere, pending_elsewhere, slip_elsewhere, elsewhere}
 use Rattle.std.proofs.lemmas.Bool.{leb-true}
 use Rattle.std.proofs.lemmas.Grind.{flat_map-append}
 use Rattle.std.proofs.lemmas.List.{map-append, append_assoc}
@@ -31,7 +31,7 @@ use Rattle.replay.specs.declared.lookup.LookedUp.{LookedUp}
 use Rattle.paths.specs.Reference.{asked, outcome}
 use Rattle.paths.specs.declared.resolution.Outcome.{Outcome}
 use Rattle.http_requests.specs.declared.messages.HttpVersion.{HttpVersion}
-use Rattle.reference.specs.Reference.{is_head, answers_head, is_unmodified_file, length_given}
+use Rattle.reference.specs.Reference.{is_head, answers_head, is_unmodified_file, length_found}
 use Rattle.replay.specs.Fronts.{floor_lookup, floor_step, front_value, seen_as, lookup_of, unseen, IsLookup}
 
 abbrev pub looked_up : Incoming → Lookup → LookedUp
@@ -43,7 +43,7 @@ one_lookup files tariff k (Request method target version closing since) Unseen h
 one_lookup files tariff k (Request method target version closing since) (Asked a) h = outcome_is files a
 one_lookup files tariff k (Request method target version closing since) (Found o) h = priced_or_not (nat_lt k 2)
   where
-    priced_or_not : (b : Bool) → IsLookup files (if b then Found o else Priced o (charge tariff target o (is_head method) (is_unmodified_file files since o) (length_given files o)))
+    priced_or_not : (b : Bool) → IsLookup files (if b then Found o else Priced o (charge tariff target o (is_head method) (is_unmodified_file files since o) (length_found files o)))
     priced_or_not true = h
     priced_or_not false = h
 one_lookup files tariff k (Request method target version closing since) (Priced o cost) h = h
@@ -172,18 +172,18 @@ same_sizes {L} count len size chunks counts sized = subst (λ (k : L → ℕ). A
 
 -- ---- the same at another type of pages
 
-given_same : {X Y : Type 0} (d : PendingAnswer X) → given_by {X = Y} (answer_elsewhere d) ≡ given_elsewhere (given_by d)
+given_same : {X Y : Type 0} (d : PendingAnswer X) → response_of {X = Y} (answer_elsewhere d) ≡ response_elsewhere (response_of d)
 given_same (Page file mtime) = refl
 given_same (Ready what) = refl
 
-abbrev slip_with : {X : Type 0} → ℕ → ℕ → ℕ → Bool → Persistence → Given X → Slip X
+abbrev slip_with : {X : Type 0} → ℕ → ℕ → ℕ → Bool → Persistence → ResponseKind X → Slip X
 slip_with number conn date head link what = record { number = number; conn = conn; date = date; head = head; link = link; what = what }
 
 slip_same : {X Y : Type 0} (t : PendingReply X) → slip_of_pending {X = Y} (pending_elsewhere t) ≡ slip_elsewhere (slip_of_pending t)
-slip_same {X} {Y} t = ap (λ (w : Given Y). slip_with t.number t.conn t.date t.head t.link w) (given_same t.answer)
+slip_same {X} {Y} t = ap (λ (w : ResponseKind Y). slip_with t.number t.conn t.date t.head t.link w) (given_same t.answer)
 
-text_go : {X : Type 0} (Y : Type 0) (files : List File) (number conn date : ℕ) (head : Bool) (link : Persistence) (what : Given X)
-    → reply_text files (slip_with {X = Y} number conn date head link (given_elsewhere what)) ≡ reply_text files (slip_with number conn date head link what)
+text_go : {X : Type 0} (Y : Type 0) (files : List File) (number conn date : ℕ) (head : Bool) (link : Persistence) (what : ResponseKind X)
+    → reply_text files (slip_with {X = Y} number conn date head link (response_elsewhere what)) ≡ reply_text files (slip_with number conn date head link what)
 text_go Y files number conn date head link (givens.Page file mtime) = refl
 text_go Y files number conn date head link (givens.Known media len mtime) = refl
 text_go Y files number conn date head link (givens.Unmodified mtime) = refl
@@ -232,25 +232,25 @@ and_left false b e = e
 
 -- its slip may be rendered
 pub may_render : {X : Type 0} (files : List File) (t : PendingReply X) → is_back files (Pending t) ≡ true
-    → (t.date ≤ 253402300799) × OnlyHead t.head (given_by t.answer) × HasLocation (given_by t.answer) × (is_answer files t.answer ≡ true)
+    → (t.date ≤ 253402300799) × OnlyHead t.head (response_of t.answer) × HasLocation (response_of t.answer) × (is_answer files t.answer ≡ true)
 may_render files t ready =
     let slip = slip_of_pending t in
     let can = and_left (can_render slip) (is_answer files t.answer) ready in
-    let rest = and_right (nat_le t.date 253402300799) (only_head t.head (given_by t.answer) && has_location (given_by t.answer)) can in (
-      leb-true t.date 253402300799 (and_left (nat_le t.date 253402300799) (only_head t.head (given_by t.answer) && has_location (given_by t.answer)) can),
-      known t.head (given_by t.answer) (and_left (only_head t.head (given_by t.answer)) (has_location (given_by t.answer)) rest),
-      placed (given_by t.answer) (and_right (only_head t.head (given_by t.answer)) (has_location (given_by t.answer)) rest),
+    let rest = and_right (nat_le t.date 253402300799) (only_head t.head (response_of t.answer) && has_location (response_of t.answer)) can in (
+      leb-true t.date 253402300799 (and_left (nat_le t.date 253402300799) (only_head t.head (response_of t.answer) && has_location (response_of t.answer)) can),
+      known t.head (response_of t.answer) (and_left (only_head t.head (response_of t.answer)) (has_location (response_of t.answer)) rest),
+      placed (response_of t.answer) (and_right (only_head t.head (response_of t.answer)) (has_location (response_of t.answer)) rest),
       and_right (can_render slip) (is_answer files t.answer) ready,
     )
   where
-    known : {X : Type 0} (head : Bool) (what : Given X) → only_head head what ≡ true → OnlyHead head what
+    known : {X : Type 0} (head : Bool) (what : ResponseKind X) → only_head head what ≡ true → OnlyHead head what
     known head (givens.Page file mtime) e = tt
     known head (givens.Known media len mtime) e = e
     known head (givens.Unmodified mtime) e = tt
     known head (givens.Moved location) e = tt
     known head (givens.Plain status) e = tt
 
-    placed : {X : Type 0} (what : Given X) → has_location what ≡ true → HasLocation what
+    placed : {X : Type 0} (what : ResponseKind X) → has_location what ≡ true → HasLocation what
     placed (givens.Page file mtime) e = tt
     placed (givens.Known media len mtime) e = tt
     placed (givens.Unmodified mtime) e = tt
@@ -262,13 +262,13 @@ may_render files t ready =
 -- its outcome and what it costs
 pub priced : (files : List File) (tariff : Tariff) (what : Meaning) (method target : List ℕ) (version : HttpVersion) (closing : Bool) (since : Option ℕ) (head : Bool) (lookup : Lookup) (o : Outcome) (cost : Charge)
     → what ≡ Request method target version closing since → head ≡ answers_head what → lookup ≡ lookup_of files tariff what → lookup ≡ Priced o cost
-    → (o ≡ outcome files (asked method target)) × (cost ≡ charge tariff target o head (is_unmodified_file files since o) (length_given files o))
+    → (o ≡ outcome files (asked method target)) × (cost ≡ charge tariff target o head (is_unmodified_file files since o) (length_found files o))
 priced files tariff what method target version closing since head lookup o cost is heads seen priced_is =
     let own : head ≡ is_head method = heads ∙ ap answers_head is in
-    let all : Priced o cost ≡ Priced (outcome files (asked method target)) (charge tariff target (outcome files (asked method target)) (is_head method) (is_unmodified_file files since (outcome files (asked method target))) (length_given files (outcome files (asked method target)))) =
+    let all : Priced o cost ≡ Priced (outcome files (asked method target)) (charge tariff target (outcome files (asked method target)) (is_head method) (is_unmodified_file files since (outcome files (asked method target))) (length_found files (outcome files (asked method target)))) =
     sym priced_is ∙ rw is at seen in
     let found : o ≡ outcome files (asked method target) = cc in
-    let costing : cost ≡ charge tariff target (outcome files (asked method target)) (is_head method) (is_unmodified_file files since (outcome files (asked method target))) (length_given files (outcome files (asked method target))) = cc in
+    let costing : cost ≡ charge tariff target (outcome files (asked method target)) (is_head method) (is_unmodified_file files since (outcome files (asked method target))) (length_found files (outcome files (asked method target))) = cc in
     (found, rw (found, own) costing)
 
 abbrev is_priced : Lookup → Bool

@@ -10,7 +10,7 @@ use Rattle.http_requests.specs.declared.messages.Meaning.{Meaning}
 use Rattle.http_requests.specs.declared.messages.Meaning.TheVariants.{Request, Bad}
 use Rattle.paths.specs.declared.file.File.{File}
 use Rattle.paths.specs.Reference.{asked, outcome}
-use Rattle.reference.specs.Reference.{Choice, is_head, is_unmodified_file, length_given}
+use Rattle.reference.specs.Reference.{Choice, is_head, is_unmodified_file, length_found}
 use Rattle.replay.specs.Fronts.{lookup_of}
 use Rattle.replay.specs.Rowing.{charge_in, pool_of}
 
@@ -27,7 +27,7 @@ pub place_is : (files : List File) (tariff : Tariff) (what : Meaning) → AreSer
     → pool_of (charge_in (lookup_of files tariff what)) ≤ length tariff.pools
 place_is files tariff (Request method target version closing since) served =
     let o = outcome files (asked method target) in
-    pool_in tariff.costs tariff.routes tariff.pools (asked (codes "GET") target) o (is_head method) (is_unmodified_file files since o) (length_given files o) served
+    pool_in tariff.costs tariff.routes tariff.pools (asked (codes "GET") target) o (is_head method) (is_unmodified_file files since o) (length_found files o) served
 place_is files tariff (Bad fault) served = omega arith
 
 -- the routes of a server's settings are served

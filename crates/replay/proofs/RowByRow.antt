@@ -17,13 +17,13 @@ use Rattle.admission.specs.Reference.{Station, Offer, served, finish_in, is_reje
 use Rattle.admission.specs.After.{outlook, ControllerAfter, StandsAsBefore}
 use Rattle.admission.specs.Standing.{Standing, station_of}
 use Rattle.responses.specs.Reference.{status_of}
-use Rattle.responses.specs.declared.slip.Given.{Given}
+use Rattle.responses.specs.declared.slip.ResponseKind.{ResponseKind}
 use Rattle.responses.specs.declared.slip.Slip.{Slip}
 use Rattle.decision_table.specs.declared.row.Row.{Row}
 use Rattle.decision_table.specs.Rows.{row_text}
 use Rattle.arrivals.specs.Reference.{Arrival}
 use Rattle.arrivals.specs.declared.incoming.Origin.{Origin}
-use Rattle.reference.specs.Reference.{station_for, Terms, tick_in, given, outcome_answer, is_unmodified, is_head, charge_of, offer_at, offers_of, rejects, is_turned_away, handled_next, slip_of}
+use Rattle.reference.specs.Reference.{station_for, Terms, tick_in, response, outcome_answer, is_unmodified, is_head, charge_of, offer_at, offers_of, rejects, is_turned_away, handled_next, slip_of}
 use Rattle.replay.specs.Fronts.{lookup_of}
 use Rattle.replay.specs.Serving.{Counted}
 use Rattle.reference.specs.Explaining.{has_pools, first_offered, row_of, method_of, target_of, row_after, rows_after}
@@ -36,7 +36,7 @@ use Rattle.reference.proofs.SameAnswer.{status_same}
 -- ---- what became of a message
 
 -- no answer turns a request away
-if_answered : {X : Type 0} (t : Bool) (x y : Given X) → turns_away x ≡ false → turns_away y ≡ false → turns_away (if t then x else y) ≡ false
+if_answered : {X : Type 0} (t : Bool) (x y : ResponseKind X) → turns_away x ≡ false → turns_away y ≡ false → turns_away (if t then x else y) ≡ false
 if_answered true x y one other = one
 if_answered false x y one other = other
 
@@ -49,7 +49,7 @@ answered X files head since outcomes.BadTarget = refl
 answered X files head since outcomes.NotAllowed = refl
 answered X files head since outcomes.NotKnown = refl
 
-away_is : (X : Type 0) (files : List File) (terms : Terms) (away : Bool) (what : Meaning) → turns_away (given {X = X} files terms away what) ≡ away
+away_is : (X : Type 0) (files : List File) (terms : Terms) (away : Bool) (what : Meaning) → turns_away (response {X = X} files terms away what) ≡ away
 away_is X files terms true what = refl
 away_is X files terms false (Request method target version closing since) = answered X files (is_head method) since (outcome files (asked method target))
 away_is X files terms false (Bad faults.TooLong) = refl
@@ -93,8 +93,8 @@ pub row_is : (X : Type 0) (files : List File) (terms : Terms) (start : ℕ) (arr
     → row ≡ row_of files terms arrivals a
 row_is X files terms start arrivals a origin tick charge found slip pools row from timed pooled costs finds slips is =
     let away = is_turned_away files terms arrivals a in
-    let given_by = offered_is files terms arrivals a.origin a.message.what charge found away costs (rw (from, ← timed) finds) refl in
-    is ∙ rw (timed, pooled, slips, ← from, away_is X files terms away a.message.what, status_same X (Unit {0}) files terms away a.message.what, given_by) refl
+    let response_of = offered_is files terms arrivals a.origin a.message.what charge found away costs (rw (from, ← timed) finds) refl in
+    is ∙ rw (timed, pooled, slips, ← from, away_is X files terms away a.message.what, status_same X (Unit {0}) files terms away a.message.what, response_of) refl
 
 -- ---- one row written
 

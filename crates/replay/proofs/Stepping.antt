@@ -11,7 +11,7 @@ use Rattle.captures.specs.Readers.{ReaderAfter, Gave, FailsNext}
 use Rattle.captures.specs.Passes.{pass_fault}
 use Rattle.arrivals.specs.Reference.{Arrival}
 use Rattle.arrivals.specs.Connections.{AreTiers}
-use Rattle.arrivals.specs.SeatStates.{SeatState}
+use Rattle.arrivals.specs.QueueStates.{QueueState}
 use Rattle.reference.specs.Reference.{Terms}
 use Rattle.reference.specs.Outcomes.{IfTooMany, IfCutShort, IsCutOff, IsOwn, Leaves}
 use Rattle.reference.specs.Texts.{Texts, reply_texts}
@@ -26,7 +26,7 @@ use Rattle.replay.proofs.ByRecord.{gave_end, more_written, own_leaves, short_amo
 use Rattle.paths.specs.declared.file.File.{File}
 
 -- more records were read and answered
-pub answered_more : (files : List File) (terms : Terms) (most : ℕ) (version : Version) (records rs : List Record) (arrivals : List Arrival) (places after : List SeatState) (decider next : Decider) (begun mid new : Option (List ℕ))
+pub answered_more : (files : List File) (terms : Terms) (most : ℕ) (version : Version) (records rs : List Record) (arrivals : List Arrival) (places after : List QueueState) (decider next : Decider) (begun mid new : Option (List ℕ))
     → HasAnswered files terms most version records arrivals places decider begun mid → (step : ServesMore files terms records arrivals rs (connections_of after) next mid new) → next.start ≡ decider.start → next.totals.answered ≤ most
     → HasAnswered files terms most version (records ++ rs) (arrivals ++ step.more) after next begun new
 answered_more files terms most version records rs arrivals places after decider next begun mid new a step start within = record {
@@ -36,7 +36,7 @@ answered_more files terms most version records rs arrivals places after decider 
   within = within;
 }
 
-pub between_more : (files : List File) (terms : Terms) (most : ℕ) (version : Version) (text begun : Option (List ℕ)) (p p-after : Progress) (ahead ahead-after : Option (List ℕ)) (tiers tiers-after : List ℕ) (places after : List SeatState) (decider next : Decider) (mid new : Option (List ℕ))
+pub between_more : (files : List File) (terms : Terms) (most : ℕ) (version : Version) (text begun : Option (List ℕ)) (p p-after : Progress) (ahead ahead-after : Option (List ℕ)) (tiers tiers-after : List ℕ) (places after : List QueueState) (decider next : Decider) (mid new : Option (List ℕ))
     → (b : Between files terms most version text begun p ahead tiers places decider mid) (rs : List Record)
     → ReaderAfter version text decider.start (b.records ++ rs) p-after ahead-after → AreTiers (b.records ++ rs) tiers-after → Waiting [] after
     → ServesMore files terms b.records b.arrivals rs (connections_of after) next mid new → next.start ≡ decider.start → next.totals.answered ≤ most
@@ -51,7 +51,7 @@ between_more files terms most version text begun p p-after ahead ahead-after tie
 }
 
 -- the capture has ended
-pub ended : (files : List File) (terms : Terms) (most : ℕ) (version : Version) (text begun : Option (List ℕ)) (records : List Record) (arrivals : List Arrival) (p p-after : Progress) (ahead ahead-after : Option (List ℕ)) (places : List SeatState) (decider : Decider) (written : Option (List ℕ)) (x : Option Record)
+pub ended : (files : List File) (terms : Terms) (most : ℕ) (version : Version) (text begun : Option (List ℕ)) (records : List Record) (arrivals : List Arrival) (p p-after : Progress) (ahead ahead-after : Option (List ℕ)) (places : List QueueState) (decider : Decider) (written : Option (List ℕ)) (x : Option Record)
     → HasAnswered files terms most version records arrivals places decider begun written → ReaderAfter version text decider.start records p ahead → x ≡ None
     → Gave version text decider.start records (Ok x) p-after ahead-after → AtEnd files terms most version text begun places decider written
 ended files terms most version text begun records arrivals p p-after ahead ahead-after places decider written x answered read none gave = record {
@@ -63,12 +63,12 @@ ended files terms most version text begun records arrivals p p-after ahead ahead
 }
 
 -- so many messages at most
-pub within_format : (files : List File) (terms : Terms) (most : ℕ) (version : Version) (records : List Record) (arrivals : List Arrival) (places : List SeatState) (decider : Decider) (begun written : Option (List ℕ))
+pub within_format : (files : List File) (terms : Terms) (most : ℕ) (version : Version) (records : List Record) (arrivals : List Arrival) (places : List QueueState) (decider : Decider) (begun written : Option (List ℕ))
     → HasAnswered files terms most version records arrivals places decider begun written → decider.totals.answered ≤ (format_of version).max_messages
 within_format files terms most version records arrivals places decider begun written a = let limit = a.limit in let within = a.within in omega (arith, limit, within)
 
 -- the capture has a fault there
-pub fault_leaves : (files : List File) (terms : Terms) (most : ℕ) (version : Version) (text begun : Option (List ℕ)) (records : List Record) (arrivals : List Arrival) (p : Progress) (ahead left now : Option (List ℕ)) (places : List SeatState) (decider : Decider) (written : Option (List ℕ))
+pub fault_leaves : (files : List File) (terms : Terms) (most : ℕ) (version : Version) (text begun : Option (List ℕ)) (records : List Record) (arrivals : List Arrival) (p : Progress) (ahead left now : Option (List ℕ)) (places : List QueueState) (decider : Decider) (written : Option (List ℕ))
     (f : CaptureFault) (r : PassFault) → HasAnswered files terms most version records arrivals places decider begun written → ReaderAfter version text decider.start records p ahead → r ≡ pass_fault f
     → (f.at ≡ length records + 1) × IsForeseen (λ bytes. IsFaultAfter version bytes decider.start records) text f → FailsNext version text decider.start records (Err f) left → now ≡ left
     → Leaves (reply_texts files terms) text now begun written r
@@ -77,14 +77,14 @@ fault_leaves files terms most version text begun records arrivals p ahead left n
     (within_format files terms most version records arrivals places decider begun written a)
 
 -- nothing more was written
-pub none_leaves : (files : List File) (terms : Terms) (most : ℕ) (version : Version) (text begun : Option (List ℕ)) (p : Progress) (ahead : Option (List ℕ)) (tiers : List ℕ) (places : List SeatState) (decider : Decider) (mid : Option (List ℕ))
+pub none_leaves : (files : List File) (terms : Terms) (most : ℕ) (version : Version) (text begun : Option (List ℕ)) (p : Progress) (ahead : Option (List ℕ)) (tiers : List ℕ) (places : List QueueState) (decider : Decider) (mid : Option (List ℕ))
     → Between files terms most version text begun p ahead tiers places decider mid → IsCutOff (reply_texts files terms) text begun mid
 none_leaves files terms most version text begun p ahead tiers places decider mid b =
     short_among files terms version text ahead begun mid decider.start b.records b.arrivals p (connections_of places) decider b.read b.answered.serves b.answered.replies
     (within_format files terms most version b.records b.arrivals places decider begun mid b.answered)
 
 -- the step itself has a fault
-pub own_step_leaves : (files : List File) (terms : Terms) (most : ℕ) (version : Version) (text begun : Option (List ℕ)) (p p-after : Progress) (ahead ahead-after now : Option (List ℕ)) (tiers : List ℕ) (places : List SeatState) (decider : Decider) (mid new : Option (List ℕ)) (f : PassFault)
+pub own_step_leaves : (files : List File) (terms : Terms) (most : ℕ) (version : Version) (text begun : Option (List ℕ)) (p p-after : Progress) (ahead ahead-after now : Option (List ℕ)) (tiers : List ℕ) (places : List QueueState) (decider : Decider) (mid new : Option (List ℕ)) (f : PassFault)
     → (b : Between files terms most version text begun p ahead tiers places decider mid) (rs : List Record) → ReaderAfter version text decider.start (b.records ++ rs) p-after ahead-after → IsOwn f
     → IfTooMany f (λ n. (n ≡ most) × ServesFull files terms most decider.start b.records b.arrivals rs mid new)
     → IfCutShort f ((new ≡ mid) ⊎ ServesInPart files terms most decider.start b.records b.arrivals rs mid new)
@@ -100,11 +100,11 @@ own_step_leaves files terms most version text begun p p-after ahead ahead-after 
     cut)
 
 -- what is written after a step, by what it answers
-pub goes_on : (more : Bool) (files : List File) (terms : Terms) (most : ℕ) (version : Version) (text begun : Option (List ℕ)) (p : Progress) (ahead : Option (List ℕ)) (tiers : List ℕ) (places : List SeatState) (decider : Decider) (written : Option (List ℕ))
+pub goes_on : (more : Bool) (files : List File) (terms : Terms) (most : ℕ) (version : Version) (text begun : Option (List ℕ)) (p : Progress) (ahead : Option (List ℕ)) (tiers : List ℕ) (places : List QueueState) (decider : Decider) (written : Option (List ℕ))
     → more ≡ true → Stepped more files terms most version text begun p ahead tiers places decider written → Between files terms most version text begun p ahead tiers places decider written
 goes_on more files terms most version text begun p ahead tiers places decider written is h = rw is at h
 
-pub is_over : (more : Bool) (files : List File) (terms : Terms) (most : ℕ) (version : Version) (text begun : Option (List ℕ)) (p : Progress) (ahead : Option (List ℕ)) (tiers : List ℕ) (places : List SeatState) (decider : Decider) (written : Option (List ℕ))
+pub is_over : (more : Bool) (files : List File) (terms : Terms) (most : ℕ) (version : Version) (text begun : Option (List ℕ)) (p : Progress) (ahead : Option (List ℕ)) (tiers : List ℕ) (places : List QueueState) (decider : Decider) (written : Option (List ℕ))
     → more ≡ false → Stepped more files terms most version text begun p ahead tiers places decider written → AtEnd files terms most version text begun places decider written
 is_over more files terms most version text begun p ahead tiers places decider written is h = rw is at h
 

@@ -11,7 +11,7 @@ use Rattle.paths.specs.declared.resolution.Outcome.TheVariants as outcomes
 use Rattle.http_requests.specs.declared.messages.Meaning.{Meaning}
 use Rattle.http_requests.specs.declared.messages.Meaning.TheVariants.{Request, Bad}
 use Rattle.cost_model.specs.Reference.{Tariff, charge}
-use Rattle.reference.specs.Reference.{is_head, is_unmodified_file, length_given}
+use Rattle.reference.specs.Reference.{is_head, is_unmodified_file, length_found}
 use Rattle.replay.specs.declared.lookup.Lookup.{Lookup}
 use Rattle.replay.specs.declared.lookup.Lookup.TheVariants.{Unseen, Asked, Found, Priced}
 use Rattle.arrivals.specs.declared.incoming.Incoming.{Incoming}
@@ -23,7 +23,7 @@ lookup_after files tariff (Bad fault) lookup = lookup
 lookup_after files tariff (Request method target version closing since) Unseen = Asked (asked method target)
 lookup_after files tariff (Request method target version closing since) (Asked a) = Found (outcome files a)
 lookup_after files tariff (Request method target version closing since) (Found o) = Priced o
-    (charge tariff target o (is_head method) (is_unmodified_file files since o) (length_given files o))
+    (charge tariff target o (is_head method) (is_unmodified_file files since o) (length_found files o))
 lookup_after files tariff (Request method target version closing since) (Priced o cost) = Priced o cost
 
 abbrev pub front_step : List File → Tariff → ℕ → LookedUp → LookedUp
@@ -79,7 +79,7 @@ floor_lookup files tariff k (Request method target version closing since) Unseen
 floor_lookup files tariff k (Request method target version closing since) (Asked a) = Found (outcome files a)
 floor_lookup files tariff k (Request method target version closing since) (Found o) =
     if nat_lt k 2 then Found o
-    else Priced o (charge tariff target o (is_head method) (is_unmodified_file files since o) (length_given files o))
+    else Priced o (charge tariff target o (is_head method) (is_unmodified_file files since o) (length_found files o))
 floor_lookup files tariff k (Request method target version closing since) (Priced o cost) = Priced o cost
 
 abbrev pub floor_step : List File → Tariff → ℕ → LookedUp → LookedUp

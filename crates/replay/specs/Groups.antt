@@ -20,7 +20,7 @@ records_of files pending_replies = flat_map record_text (map (λ t. reply_to fil
 -- the bytes of the file that a reply waits for the page of
 abbrev pub answer_len : {X : Type 0} → List File → PendingAnswer X → ℕ
 answer_len files (Page file mtime) = length (file_of files file).bytes
-answer_len files (Ready given) = 0
+answer_len files (Ready response) = 0
 
 abbrev pub page_len : {X : Type 0} → List File → PendingReply X → ℕ
 page_len files pending = answer_len files pending.answer

@@ -10,8 +10,8 @@ use Rattle.admission.specs.declared.control.Outlook.{Outlook}
 use Rattle.admission.specs.declared.control.Decision.TheVariants.{Admitted, Rejected}
 use Rattle.responses.specs.declared.slip.Status.{Status}
 use Rattle.responses.specs.declared.slip.Status.TheVariants.{ServiceUnavailable}
-use Rattle.responses.specs.declared.slip.Given.{Given}
-use Rattle.responses.specs.declared.slip.Given.TheVariants.{Plain}
+use Rattle.responses.specs.declared.slip.ResponseKind.{ResponseKind}
+use Rattle.responses.specs.declared.slip.ResponseKind.TheVariants.{Plain}
 use Rattle.decision_table.specs.declared.row.Offered.{Offered}
 use Rattle.replay.specs.declared.lookup.Lookup.{Lookup}
 use Rattle.replay.specs.declared.lookup.Lookup.TheVariants.{Priced}
@@ -36,7 +36,7 @@ abbrev pub is_unavailable : Status → Bool
 is_unavailable (ServiceUnavailable seconds) = true
 is_unavailable status = false
 
-abbrev pub turns_away : {X : Type 0} → Given X → Bool
+abbrev pub turns_away : {X : Type 0} → ResponseKind X → Bool
 turns_away (Plain status) = is_unavailable status
 turns_away what = false
 

@@ -6,7 +6,7 @@ use Rattle.http_requests.specs.declared.messages.Message.{Message}
 use Rattle.http_requests.specs.declared.messages.Meaning.{Meaning}
 use Rattle.arrivals.specs.Reference.{Arrival}
 use Rattle.arrivals.specs.Connections.{arrivals_with, AreTiers}
-use Rattle.arrivals.specs.SeatStates.{SeatState}
+use Rattle.arrivals.specs.QueueStates.{QueueState}
 use Rattle.arrivals.specs.declared.connections.Connection.{Connection}
 use Rattle.arrivals.specs.declared.incoming.Incoming.{Incoming}
 use Rattle.arrivals.specs.declared.incoming.Origin.{Origin}
@@ -142,25 +142,26 @@ abbrev pub AnswersComingInPart : ℕ → List File → Terms → List Incoming �
 AnswersComingInPart most files terms messages decider old new = (i : ℕ) × (i ≤ length messages)
     × (decider.totals.answered + i ≤ most) × WritesFirstInPart i files terms messages decider old new
 
--- the records whose pieces wait at the seats were read, and the messages that arrived with them were answered
-abbrev pub AnswersBatch : List File → Terms → List SeatState → List Origin → Decider → List SeatState → Decider
+-- the records whose pieces wait at the queues were read, and the messages that arrived with them were answered
+abbrev pub AnswersBatch : List File → Terms → List QueueState → List Origin → Decider → List QueueState → Decider
     → Option (List ℕ)
     → Option (List ℕ) → Type 0
-AnswersBatch files terms seats origins decider seats-after decider-after old new = (records rs : List Record)
-    (arrivals : List Arrival) → ComeNext files terms records rs arrivals seats origins decider
-    → ServesMore files terms records arrivals rs (connections_of seats-after) decider-after old new
+AnswersBatch files terms queues origins decider queues-after decider-after old new = (records rs : List Record)
+    (arrivals : List Arrival) → ComeNext files terms records rs arrivals queues origins decider
+    → ServesMore files terms records arrivals rs (connections_of queues-after) decider-after old new
 
 -- they are more than the most that are answered, and those within it were; a prefix of the replies to those within
 -- was written
-abbrev pub FillsWithBatch : ℕ → List File → Terms → List SeatState → List Origin → Decider → Option (List ℕ)
+abbrev pub FillsWithBatch : ℕ → List File → Terms → List QueueState → List Origin → Decider → Option (List ℕ)
     → Option (List ℕ) → Type 0
-FillsWithBatch most files terms seats origins decider old new = (records rs : List Record) (arrivals : List Arrival)
-    → ComeNext files terms records rs arrivals seats origins decider
+FillsWithBatch most files terms queues origins decider old new = (records rs : List Record) (arrivals : List Arrival)
+    → ComeNext files terms records rs arrivals queues origins decider
     → ServesFull files terms most decider.start records arrivals rs old new
 
-abbrev pub AnswersBatchInPart : ℕ → List File → Terms → List SeatState → List Origin → Decider → Option (List ℕ)
+abbrev pub AnswersBatchInPart : ℕ → List File → Terms → List QueueState → List Origin → Decider → Option (List ℕ)
     → Option (List ℕ)
     → Type 0
-AnswersBatchInPart most files terms seats origins decider old new = (records rs : List Record) (arrivals : List Arrival)
-    → ComeNext files terms records rs arrivals seats origins decider
+AnswersBatchInPart most files terms queues origins decider old new =
+    (records rs : List Record) (arrivals : List Arrival)
+    → ComeNext files terms records rs arrivals queues origins decider
     → ServesInPart files terms most decider.start records arrivals rs old new

@@ -1,4 +1,4 @@
--- A batch between its being read and served: its pieces wait at the seats of their numbers.
+-- A batch between its being read and served: its pieces wait at the queues of their numbers.
 use Rattle.std.specs.Prelude.{◌≡◌, ℕ, ◌≤◌, List, [], ◌++◌, map, ◌<◌, ◌∷◌}
 use Rattle.captures.specs.declared.record.Record.{Record}
 use Rattle.captures.specs.declared.version.Version.{Version}
@@ -7,7 +7,7 @@ use Rattle.captures.specs.CaptureFaults.{longest_text}
 use Rattle.captures.specs.Captures.{sizes_of}
 use Rattle.arrivals.specs.Reference.{Arrival}
 use Rattle.arrivals.specs.Batches.{sent_to, origins_after}
-use Rattle.arrivals.specs.SeatStates.{SeatState, seat_at}
+use Rattle.arrivals.specs.QueueStates.{QueueState, queued_at}
 use Rattle.arrivals.specs.declared.connections.Connection.{Connection}
 use Rattle.arrivals.specs.declared.incoming.Incoming.{Incoming}
 use Rattle.arrivals.specs.declared.incoming.Origin.{Origin}
@@ -39,17 +39,17 @@ InTime earlier [] = Unit {0}
 InTime earlier (a ∷ more) = AreBy a.origin.tick earlier × (a.origin.tick ≤ max_tick) × (a.origin.tier < 4)
     × InTime (earlier ++ a ∷ []) more
 
--- the connections at the seats
-abbrev pub connections_of : List SeatState → List Connection
+-- the connections at the queues
+abbrev pub connections_of : List QueueState → List Connection
 connections_of places = map (λ p. p.connection) places
 
--- what these records bring waits at the seats, and nothing is cut yet
-abbrev pub Waiting : List Record → List SeatState → Type 0
-Waiting rs places = (c : ℕ) → ((seat_at places c).waiting ≡ sent_to c rs) × ((seat_at places c).lists ≡ [])
+-- what these records bring waits at the queues, and nothing is cut yet
+abbrev pub Waiting : List Record → List QueueState → Type 0
+Waiting rs places = (c : ℕ) → ((queued_at places c).waiting ≡ sent_to c rs) × ((queued_at places c).lists ≡ [])
 
--- These records come next, after others that were served: their pieces wait at the seats, and came from these origins.
+-- These records come next, after others that were served: their pieces wait at the queues, and came from these origins.
 pub record ComeNext (files : List File) (terms : Terms) (records rs : List Record) (arrivals : List Arrival)
-    (places : List SeatState)
+    (places : List QueueState)
     (origins : List Origin) (decider : Decider) : Type 0 where
   pub serves : Serves files terms records arrivals (connections_of places) decider
   pub waiting : Waiting rs places

@@ -3,7 +3,7 @@
 ghost use Rattle.std.specs.Prelude.{◌≡◌, ◌<◌, ◌≤◌, ◌-◌, ◌+◌, ◌^◌, true, length, ◌&&◌};
 ghost use Rattle.paths.specs.Reference.{file_of};
 ghost use Rattle.reference.specs.Reference.{fault_status, outcome_answer, persistence_of};
-ghost use Rattle.replay.specs.Backs.{given_by, only_head, has_location, is_answer};
+ghost use Rattle.replay.specs.Backs.{response_of, only_head, has_location, is_answer};
 ghost use Rattle.paths.specs.Resolution.{IsOutcome};
 ghost use Rattle.page_cache.specs.Reference.{media_of};
 
@@ -12,7 +12,7 @@ use crate::pending::PendingAnswer;
 use http_requests::{HttpVersion, Meaning, MessageFault};
 use page_cache::MediaType;
 use paths::{Outcome, Snapshot, Tree};
-use responses::{Given, Persistence, Status};
+use responses::{Persistence, ResponseKind, Status};
 
 /// The status of a message that breaks a rule.
 pub(crate) fn fault_status(fault: MessageFault) -> Status
@@ -27,12 +27,12 @@ pub(crate) fn fault_status(fault: MessageFault) -> Status
 }
 
 /// What HEAD is answered for a file that was last changed at `mtime`, in seconds since 1970-01-01.
-pub(crate) fn known_file<F: Tree>(snapshot: &Snapshot, file: usize, mtime: u64) -> Given<F>
+pub(crate) fn known_file<F: Tree>(snapshot: &Snapshot, file: usize, mtime: u64) -> ResponseKind<F>
     requires { file < length snapshot.now }
-    ensures { result ≡ Given.Known (media_of (file_of snapshot.now file).name)
+    ensures { result ≡ ResponseKind.Known (media_of (file_of snapshot.now file).name)
         (length (file_of snapshot.now file).bytes) mtime }
 {
-    Given::Known {
+    ResponseKind::Known {
         media: MediaType::of_name(snapshot.name(file)),
         len: snapshot.bytes(file).len() as u64,
         mtime,
@@ -48,13 +48,13 @@ fn file_answer<F: Tree>(
 ) -> PendingAnswer<F>
     requires snapshot { snapshot.now ≡ F.files }
     requires file { file < length snapshot.now }
-    ensures given_by { given_by result ≡ outcome_answer F.files head since (Outcome.File file) }
+    ensures response_of { response_of result ≡ outcome_answer F.files head since (Outcome.File file) }
     ensures answer { is_answer F.files result ≡ true }
-    ensures can { (only_head head (given_by result) && has_location (given_by result)) ≡ true }
+    ensures can { (only_head head (response_of result) && has_location (response_of result)) ≡ true }
 {
     let mtime = snapshot.mtime(file);
     if is_unmodified(since, mtime) {
-        return PendingAnswer::Ready(Given::Unmodified { mtime });
+        return PendingAnswer::Ready(ResponseKind::Unmodified { mtime });
     }
     if head {
         return PendingAnswer::Ready(known_file(snapshot, file, mtime));
@@ -71,19 +71,19 @@ pub(crate) fn outcome_answer<F: Tree>(
 ) -> PendingAnswer<F>
     requires snapshot { snapshot.now ≡ F.files }
     requires is { IsOutcome F.files outcome }
-    ensures given_by { given_by result ≡ outcome_answer F.files head since outcome }
+    ensures response_of { response_of result ≡ outcome_answer F.files head since outcome }
     ensures answer { is_answer F.files result ≡ true }
-    ensures can { (only_head head (given_by result) && has_location (given_by result)) ≡ true }
+    ensures can { (only_head head (response_of result) && has_location (response_of result)) ≡ true }
 {
     let status = match outcome {
         Outcome::File(file) => return file_answer(snapshot, head, since, file),
-        Outcome::Move(location) => return PendingAnswer::Ready(Given::Moved { location }),
+        Outcome::Move(location) => return PendingAnswer::Ready(ResponseKind::Moved { location }),
         Outcome::Missing => Status::NotFound,
         Outcome::BadTarget => Status::BadRequest,
         Outcome::NotAllowed => Status::MethodNotAllowed,
         Outcome::NotKnown => Status::NotImplemented,
     };
-    PendingAnswer::Ready(Given::Plain { status })
+    PendingAnswer::Ready(ResponseKind::Plain { status })
 }
 
 /// What the reply says of its connection.

@@ -16,7 +16,7 @@ use crate::pending::{PendingAnswer, PendingReply};
 use crate::serving::{Pricing, Serving, empty_chunk, laid_by, last_laid_by};
 use page_cache::{Page, PageCache};
 use paths::{Snapshot, Tree};
-use responses::{Given, Reply, SharedPage, Slip, render};
+use responses::{Reply, ResponseKind, SharedPage, Slip, render};
 use stage_graph::{Before, Carries, Gate, Unrun};
 use std::alloc::{AllocError, Global};
 use std::sync::{Arc, Mutex, Wait};
@@ -96,7 +96,7 @@ impl<'a, F: Tree, K: Pricing, T: Wait> Serving<'a, F, K, T> {
         } = pending;
         let what = match answer {
             PendingAnswer::Ready(what) => what,
-            PendingAnswer::Page { file, mtime } => Given::Page {
+            PendingAnswer::Page { file, mtime } => ResponseKind::Page {
                 page: self.page(file)?,
                 mtime,
             },

@@ -4,12 +4,12 @@ ghost use Rattle.std.specs.Prelude.{◌≡◌, ◌<◌, ◌≤◌, ◌∷◌, �
 ghost use Rattle.admission.specs.Reference.{Offer};
 ghost use Rattle.admission.specs.After.{ControllerAfter};
 ghost use Rattle.admission.specs.Standing.{station_of, HasPool};
-ghost use Rattle.reference.specs.Reference.{answers_head, given, offer_at, samples_of, handled_next};
+ghost use Rattle.reference.specs.Reference.{answers_head, response, offer_at, samples_of, handled_next};
 ghost use Rattle.reference.specs.Reference.{handled_after};
 ghost use Rattle.reference.specs.Reference.{slip_of, station_for, tick_in};
 ghost use Rattle.replay.specs.Totals.{Decides, offer_with};
 ghost use Rattle.replay.specs.Fronts.{lookup_of};
-ghost use Rattle.replay.specs.Backs.{given_by, only_head, has_location, is_answer, is_back, slip_of_pending};
+ghost use Rattle.replay.specs.Backs.{response_of, only_head, has_location, is_answer, is_back, slip_of_pending};
 ghost use Rattle.std.specs.List.{list_all};
 ghost use Rattle.captures.specs.Reference.{max_start, max_tick};
 ghost use Rattle.arrivals.specs.Reference.{Arrival};
@@ -29,7 +29,7 @@ use arrivals::Origin;
 use cost_model::Charge;
 use http_requests::Meaning;
 use paths::Tree;
-use responses::{Given, Status};
+use responses::{ResponseKind, Status};
 use std::alloc::{AllocError, Global};
 
 /// Where the messages of a capture are decided on and counted, in the order of their arrival.
@@ -95,17 +95,17 @@ impl Decider {
         requires clock { self.old.controller.clock ≤ tick_in server.now.served origin }
         requires origin { (origin.tier < 4) × (origin.tick ≤ MAX_TICK) }
         requires lookup { lookup ≡ lookup_of F.files server.now.served.tariff what.now }
-        ensures given_by { IfOk result
+        ensures response_of { IfOk result
             (λ answer. (offers : List Offer) → ControllerAfter offers self.old.controller
             → self.old.totals.samples ≡ samples_of (station_of self.old.controller) offers
             → (away : Bool) × Decides offers
             (offer_at F.files server.now.served origin what.now) self.old self.new away
-            × (given_by answer ≡ given F.files server.now.served away what.now)) }
+            × (response_of answer ≡ response F.files server.now.served away what.now)) }
         ensures can { IfOk result (λ answer. (is_answer F.files answer ≡ true)
-            × ((only_head (answers_head what.now) (given_by answer) && has_location (given_by answer)) ≡ true)) }
+            × ((only_head (answers_head what.now) (response_of answer) && has_location (response_of answer)) ≡ true)) }
     {
         match what {
-            Meaning::Bad(fault) => Ok(PendingAnswer::Ready(Given::Plain {
+            Meaning::Bad(fault) => Ok(PendingAnswer::Ready(ResponseKind::Plain {
                 status: fault_status(*fault),
             })),
             Meaning::Request { modified_since, .. } => {
@@ -120,7 +120,7 @@ impl Decider {
                 let _pools = settings.tariff().pools();
                 if self.offer(origin.tier, tick, charge)? {
                     let retry_after = settings.retry_after();
-                    return Ok(PendingAnswer::Ready(Given::Plain {
+                    return Ok(PendingAnswer::Ready(ResponseKind::Plain {
                         status: Status::ServiceUnavailable { retry_after },
                     }));
                 }

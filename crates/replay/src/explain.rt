@@ -37,7 +37,7 @@ pub fn explain_replay<F: Tree, R: Read, W: Write>(
     // many messages, those of the messages within the limit; else a prefix of the whole text.
     ensures fault { IfErr result (Leaves (row_texts F.files settings.now.served)
         reader.old.bytes reader.new.bytes writer.old.bytes writer.new.bytes) }
-    // A device is blamed only where it failed in this call.
+    // A device is reported only where it failed in this call.
     ensures reads { CountsBy reader_failures reader.old.failures reader.new.failures result }
     ensures writes { CountsBy writer_failures writer.old.failures writer.new.failures result }
     ensures ok { IfOk result

@@ -1,7 +1,7 @@
 //! What is known of a message before it is decided on.
 
 ghost use Rattle.std.specs.Prelude.{◌≡◌, ◌<◌, ◌≤◌, ◌-◌, ◌+◌, ◌^◌, IfOk};
-ghost use Rattle.reference.specs.Reference.{is_unmodified, answers_head, is_unmodified_file, length_given};
+ghost use Rattle.reference.specs.Reference.{is_unmodified, answers_head, is_unmodified_file, length_found};
 ghost use Rattle.replay.specs.Fronts.{lookup_of};
 ghost use Rattle.paths.specs.Resolution.{IsOutcome};
 ghost use Rattle.cost_model.specs.Reference.{charge};
@@ -66,7 +66,7 @@ pub(crate) fn charge_of(
     requires { IsOutcome snapshot.now outcome.now }
     ensures { IfOk result (λ c. c
         ≡ charge tariff.now target.now outcome.now head (is_unmodified_file snapshot.now since outcome.now)
-        (length_given snapshot.now outcome.now)) }
+        (length_found snapshot.now outcome.now)) }
 {
     match outcome {
         Outcome::File(file) => {

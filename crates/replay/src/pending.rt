@@ -2,7 +2,7 @@
 
 ghost use Rattle.std.specs.Prelude.{◌≡◌, slice_get, ◌<◌, ◌≤◌, ◌-◌, ◌+◌, ◌^◌, [], true, length, OnOk, IfErr, OnErr};
 ghost use Rattle.responses.specs.Reference.{status_of, statuses, record_text};
-ghost use Rattle.replay.specs.Backs.{given_by, slip_of_pending, reply_to, is_back, can_render};
+ghost use Rattle.replay.specs.Backs.{response_of, slip_of_pending, reply_to, is_back, can_render};
 ghost use Rattle.std.specs.Io.KnownBytes.{Appends};
 ghost use Rattle.devices.specs.Devices.{CanFail, CountsBy, AppendsPrefix};
 ghost use Rattle.paths.specs.Snapshots.{max_time};
@@ -15,7 +15,7 @@ use crate::server::Server;
 use crate::source::Source;
 use devices::Output;
 use paths::Tree;
-use responses::{Given, HeadRenderer, OK_PLACE, Persistence, Slip, render, write_reply};
+use responses::{HeadRenderer, OK_PLACE, Persistence, ResponseKind, Slip, render, write_reply};
 use std::alloc::Global;
 use std::io::Write;
 
@@ -28,17 +28,17 @@ pub enum PendingAnswer<F: Tree> {
         /// When the file was last changed, in seconds since 1970-01-01.
         mtime: u64,
     },
-    Ready(Given<F>),
+    Ready(ResponseKind<F>),
 }
 
 impl<F: Tree> PendingAnswer<F> {
     /// The place of the code of its status in `STATUS_CODES`.
     pub(crate) fn status_place(&self) -> usize
-        ensures { slice_get statuses result ≡ Some (status_of (given_by self.now)) }
+        ensures { slice_get statuses result ≡ Some (status_of (response_of self.now)) }
     {
         match self {
             PendingAnswer::Page { .. } => OK_PLACE,
-            PendingAnswer::Ready(given) => given.status_place(),
+            PendingAnswer::Ready(response) => response.status_place(),
         }
     }
 }

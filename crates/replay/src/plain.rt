@@ -126,7 +126,7 @@ pub(crate) fn answer_record<T: Format, F: Tree, S: Source<F>, C: Reading, W: Wri
     requires start { decider.old.start ≤ max_start }
     requires limit { (decider.old.totals.answered ≤ most) × (most ≤ MAX_MESSAGES) }
     requires record { (version : AVersion) × IsRecord version next.now }
-    requires room { (records : List ARecord) × (arrivals : List Arrival)
+    requires capacity { (records : List ARecord) × (arrivals : List Arrival)
         × Serves F.files server.now.served records arrivals (C.connections connections.old) decider.old
         × (sizes_of records + size_of next.now ≤ longest_text) × IsLater next.now arrivals }
     requires failures { CanFail writer.old }
@@ -261,7 +261,7 @@ pub fn plain_replay<F: Tree, R: Read, W: Write>(
     // many messages, those of the messages within the limit; else a prefix of the whole text.
     ensures fault { IfErr result (Leaves (reply_texts F.files settings.now.served)
         reader.old.bytes reader.new.bytes writer.old.bytes writer.new.bytes) }
-    // A device is blamed only where it failed in this call.
+    // A device is reported only where it failed in this call.
     ensures reads { CountsBy reader_failures reader.old.failures reader.new.failures result }
     ensures writes { CountsBy writer_failures writer.old.failures writer.new.failures result }
     ensures ok { IfOk result

@@ -2,10 +2,10 @@
 
 ghost use Rattle.std.specs.Prelude.{◌≡◌, ◌≢◌, [], ℕ, length, OnOk};
 ghost use Rattle.arrivals.specs.Batches.{Reads};
-ghost use Rattle.arrivals.specs.Connections.{HasRoom, connection_at};
+ghost use Rattle.arrivals.specs.Connections.{HasCapacity, connection_at};
 ghost use Rattle.arrivals.specs.declared.connections.Connection.TheVariants.{Silent};
 
-use arrivals::{Connections, Seats};
+use arrivals::{ConnectionQueues, Connections};
 use http_requests::Message;
 use std::alloc::{AllocError, Global};
 
@@ -28,7 +28,7 @@ pub(crate) trait Reading {
         out: &mut Vec<Message>,
     ) -> Result<(), AllocError>
         requires empty { out.old.items ≡ [] }
-        requires room { HasRoom (connection_at (connections self.old) conn) (length piece.now) }
+        requires capacity { HasCapacity (connection_at (connections self.old) conn) (length piece.now) }
         ensures own { OnOk result (Reads (connection_at (connections self.old) conn)
             piece.now out.new.items (connection_at (connections self.new) conn)) }
         ensures others { OnOk result ((c : ℕ) → c ≢ conn
@@ -63,7 +63,7 @@ impl Reading for Connections {
     }
 }
 
-impl Reading for Seats {
+impl Reading for ConnectionQueues {
     ghost use Rattle.std.specs.Prelude.{[]};
     ghost use Rattle.replay.specs.Waiting.{Waiting, connections_of};
 
@@ -82,6 +82,6 @@ impl Reading for Seats {
     }
 
     fn close(&mut self, conn: usize) {
-        Seats::close(self, conn);
+        ConnectionQueues::close(self, conn);
     }
 }

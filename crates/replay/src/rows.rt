@@ -7,7 +7,7 @@ ghost use Rattle.arrivals.specs.Reference.{Arrival};
 ghost use Rattle.paths.specs.declared.file.File.{File};
 ghost use Rattle.reference.specs.Reference.{Terms, tick_in, handled_next, slip_of};
 ghost use Rattle.replay.specs.Fronts.{lookup_of};
-ghost use Rattle.replay.specs.Backs.{slip_of_pending, given_by};
+ghost use Rattle.replay.specs.Backs.{slip_of_pending, response_of};
 ghost use Rattle.reference.specs.Explaining.{has_pools, row_of, method_of, target_of};
 ghost use Rattle.replay.specs.Rowing.{charge_in, pool_of, turns_away, offered_with, outlook_after};
 
@@ -25,7 +25,7 @@ use decision_table::{Offered, Row, write_heading, write_row};
 use devices::Output;
 use http_requests::Meaning;
 use paths::Tree;
-use responses::{Given, HeadRenderer, OK_PLACE, STATUS_CODES, Status};
+use responses::{HeadRenderer, OK_PLACE, ResponseKind, STATUS_CODES, Status};
 use std::alloc::Global;
 use std::io::Write;
 
@@ -51,21 +51,21 @@ fn pool_in(lookup: &Lookup) -> u8
 
 /// The status that a message is answered with.
 fn status_of<F: Tree>(answer: &PendingAnswer<F>) -> u16
-    ensures { result ≡ status_of (given_by answer.now) }
+    ensures { result ≡ status_of (response_of answer.now) }
 {
     match answer {
         PendingAnswer::Page { .. } => STATUS_CODES[OK_PLACE],
-        PendingAnswer::Ready(given) => given.code(),
+        PendingAnswer::Ready(response) => response.code(),
     }
 }
 
 /// Whether a message is turned away.
 fn turns_away<F: Tree>(answer: &PendingAnswer<F>) -> bool
-    ensures { result ≡ turns_away (given_by answer.now) }
+    ensures { result ≡ turns_away (response_of answer.now) }
 {
     match answer {
         PendingAnswer::Ready(
-            Given::Plain {
+            ResponseKind::Plain {
                 status: Status::ServiceUnavailable { .. },
             },
         ) => true,

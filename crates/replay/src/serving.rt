@@ -155,7 +155,7 @@ pub(crate) fn laid_by<F: Tree>(
         (λ rest. decided_in chunks.new.items ++ rest.back.items
         ≡ decided_in chunks.old.items ++ chunk.back.items) }
     ensures sized { OnOk result (AreSized chunk_len size chunks.new.items) }
-    ensures room { IfOk result (λ rest. chunk_len rest < size) }
+    ensures capacity { IfOk result (λ rest. chunk_len rest < size) }
 {
     if !ends && chunk.front.len().saturating_add(chunk.back.len()) < size {
         return Ok(chunk);

@@ -8,7 +8,7 @@ ghost use Rattle.captures.specs.Passes.{writer_failures, IsWriteOrMemory};
 ghost use Rattle.paths.specs.Reference.{file_of};
 ghost use Rattle.paths.specs.Snapshots.{max_time};
 ghost use Rattle.responses.specs.Reference.{record_text};
-ghost use Rattle.replay.specs.Backs.{given_as};
+ghost use Rattle.replay.specs.Backs.{response_record};
 
 use crate::ReplayFault;
 use crate::server::Server;
@@ -30,9 +30,9 @@ fn give_file<F: Tree, W: Write>(
     requires date { slip.now.date ≤ max_time }
     requires failures { CanFail writer.old }
     ensures written { OnOk result (Appends writer.old.bytes writer.new.bytes
-        (record_text (given_as F.files slip.now bytes.now))) }
+        (record_text (response_record F.files slip.now bytes.now))) }
     ensures part { OnErr result (AppendsPrefix writer.old.bytes writer.new.bytes
-        (record_text (given_as F.files slip.now bytes.now))) }
+        (record_text (response_record F.files slip.now bytes.now))) }
     ensures failures { CountsBy writer_failures writer.old.failures writer.new.failures result }
     ensures own { IfErr result IsWriteOrMemory }
 {
@@ -56,9 +56,9 @@ pub(crate) trait Source<F: Tree> {
         requires slip { (file < length F.files) × (slip.now.date ≤ max_time) }
         requires failures { CanFail writer.old }
         ensures written { OnOk result (Appends writer.old.bytes writer.new.bytes
-            (record_text (given_as F.files slip.now (file_of F.files file).bytes))) }
+            (record_text (response_record F.files slip.now (file_of F.files file).bytes))) }
         ensures part { OnErr result (AppendsPrefix writer.old.bytes writer.new.bytes
-            (record_text (given_as F.files slip.now (file_of F.files file).bytes))) }
+            (record_text (response_record F.files slip.now (file_of F.files file).bytes))) }
         ensures failures { CountsBy writer_failures writer.old.failures writer.new.failures result }
         ensures own { IfErr result IsWriteOrMemory };
 }

@@ -4,7 +4,7 @@ ghost use Rattle.std.specs.Prelude.{◌≡◌, ◌≤◌, ◌-◌, ◌^◌, ◌�
 ghost use Rattle.devices.specs.Devices.{CanFail, CountsBy};
 ghost use Rattle.reference.specs.Reference.{Answers};
 ghost use Rattle.reference.specs.Outcomes.{Leaves};
-ghost use Rattle.captures.specs.Passes.{BlamesReader, leaves_reads_untold, reader_failures, writer_failures};
+ghost use Rattle.captures.specs.Passes.{AttributesReads, leaves_reads_unreported, reader_failures, writer_failures};
 ghost use Rattle.reference.specs.Texts.{reply_texts};
 ghost use Rattle.stage_graph.specs.Layouts.{workers};
 ghost use Rattle.replay.specs.Chunks.{AreFloorSteps};
@@ -22,7 +22,7 @@ use crate::server::Server;
 use crate::serving::{FloorSteps, Pricing, Serving};
 use crate::totals::Totals;
 use crate::{ReplayFault, Settings};
-use arrivals::{Seats, Tiers};
+use arrivals::{ConnectionQueues, Tiers};
 use captures::CaptureReader;
 use devices::{Input, Output};
 use page_cache::PageCache;
@@ -77,9 +77,9 @@ pub fn staged_replay<
     // many messages, those of the messages within the limit; else a prefix of the whole text.
     ensures fault { IfErr result (Leaves (reply_texts F.files settings.now.served)
         reader.old.bytes reader.new.bytes writer.old.bytes writer.new.bytes) }
-    // A device is blamed exactly where it failed in this call; but one read that failed may go unreported where the
+    // A device is reported exactly where it failed in this call; but one read that failed may go unreported where the
     // messages before it are too many, where they can't be written, and where memory runs out.
-    ensures reads { BlamesReader reader_failures leaves_reads_untold
+    ensures reads { AttributesReads reader_failures leaves_reads_unreported
         reader.old.failures reader.new.failures result }
     ensures writes { CountsBy writer_failures writer.old.failures writer.new.failures result }
     ensures ok { IfOk result
@@ -120,9 +120,9 @@ trait Replays {
         // too many messages, those of the messages within the limit; else a prefix of the whole text.
         ensures fault { IfErr result (Stopped (reply_texts (files self.now) (terms self.now))
             reader.old.bytes reader.new.bytes writer.old.bytes writer.new.bytes) }
-        // A device is blamed exactly where it failed in this call; but one read that failed may go unreported where the
-        // messages before it are too many, where they can't be written, and where memory runs out.
-        ensures reads { BlamesReader reader_failures leaves_reads_untold
+        // A device is reported exactly where it failed in this call; but one read that failed may go unreported where
+        // the messages before it are too many, where they can't be written, and where memory runs out.
+        ensures reads { AttributesReads reader_failures leaves_reads_unreported
             reader.old.failures reader.new.failures result }
         ensures writes { CountsBy writer_failures writer.old.failures writer.new.failures result }
         ensures ok { IfOk result
@@ -281,9 +281,9 @@ where
     // many messages, those of the messages within the limit; else a prefix of the whole text.
     ensures fault { IfErr result (Stopped (reply_texts (P.files staged.now) (P.terms staged.now))
         reader.old.bytes reader.new.bytes writer.old.bytes writer.new.bytes) }
-    // A device is blamed exactly where it failed in this call; but one read that failed may go unreported where the
+    // A device is reported exactly where it failed in this call; but one read that failed may go unreported where the
     // messages before it are too many, where they can't be written, and where memory runs out.
-    ensures reads { BlamesReader reader_failures leaves_reads_untold
+    ensures reads { AttributesReads reader_failures leaves_reads_unreported
         reader.old.failures reader.new.failures result }
     ensures writes { CountsBy writer_failures writer.old.failures writer.new.failures result }
     ensures ok { IfOk result
@@ -330,7 +330,7 @@ impl<
         let server = &serving.server;
         let alloc = server.alloc;
         let settings = server.settings;
-        let mut seats = Seats::new(alloc);
+        let mut queues = ConnectionQueues::new(alloc);
         let mut tiers = Tiers::new(alloc);
         let version = capture.version();
         let mut decider = Decider {
@@ -355,7 +355,7 @@ impl<
             &mut heads,
             &mut messages,
             &mut capture,
-            &mut seats,
+            &mut queues,
             &mut tiers,
             &mut decider,
             writer,

@@ -4,7 +4,7 @@ ghost use Rattle.std.specs.Prelude.{◌≡◌, ◌-◌, ◌<◌, ◌^◌, []};
 ghost use Rattle.responses.specs.Reference.{status_of};
 ghost use Rattle.reference.specs.Reference.{breaks_a_rule};
 ghost use Rattle.replay.specs.Totals.{AreBelow, with_status, no_counts, with_reply};
-ghost use Rattle.replay.specs.Backs.{given_by};
+ghost use Rattle.replay.specs.Backs.{response_of};
 
 use crate::pending::PendingAnswer;
 use arrivals::Series;
@@ -51,7 +51,7 @@ impl Totals {
         requires counts { AreBelow (2 ^ 64 - 1) self.old.counts }
         requires bypassed { self.old.bypassed < 2 ^ 64 - 1 }
         ensures { self.new
-            ≡ with_reply self.old (status_of (given_by answer.now)) (breaks_a_rule what.now) }
+            ≡ with_reply self.old (status_of (response_of answer.now)) (breaks_a_rule what.now) }
     {
         self.answered += 1;
         count_status(&mut self.counts, answer);
@@ -64,7 +64,7 @@ impl Totals {
 /// Counts one more message, by the status that it is to be answered with.
 pub(crate) fn count_status<F: Tree>(counts: &mut Counts, answer: &PendingAnswer<F>)
     requires { AreBelow (2 ^ 64 - 1) counts.old }
-    ensures { counts.new ≡ with_status counts.old (status_of (given_by answer.now)) }
+    ensures { counts.new ≡ with_status counts.old (status_of (response_of answer.now)) }
 {
     counts.by_status[answer.status_place()] += 1;
 }

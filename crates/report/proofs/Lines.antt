@@ -81,7 +81,7 @@ rest-is n xs = take_all (length xs - n) (drop n xs) (omega (arith, length-drop n
 abbrev pub line_of : ℕ × ℕ → List ℕ
 line_of entry = status_line entry.0 entry.1
 
--- one pair more of those of a zip, of which n were told
+-- one pair more of those of a zip, of which n were written
 pub status_lines-more : (start s s' codes counts : List ℕ) (n m status count : ℕ)
     → n < length codes → n < length counts → m ≡ n + 1 → status ≡ get_or codes n 0 → count ≡ get_or counts n 0
     → s ≡ start ++ flat_map line_of (take n (zip codes counts)) → s' ≡ s ++ status_line status count
@@ -95,7 +95,7 @@ status_lines-more start s s' codes counts n m status count first second next cod
     rw (now, before, own, next, take_more pairs n (0, 0) within)
     (flat_map_more line_of start (take n pairs) (get_or pairs n (0, 0)))
 
--- all pairs were told
+-- all pairs were written
 pub status_lines-all : (start s codes counts : List ℕ) (n : ℕ) → n ≡ min (length codes) (length counts)
     → s ≡ start ++ flat_map line_of (take n (zip codes counts)) → s ≡ start ++ flat_map line_of (zip codes counts)
 status_lines-all start s codes counts n end before =

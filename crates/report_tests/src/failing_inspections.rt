@@ -11,7 +11,7 @@ use std::process::Abort;
 use test_support::Flaky;
 
 /// How many whole records there were, and the record and the kind of the fault where there was one.
-fn told(answer: Result<Inspection, InspectFault>) -> (u64, Option<(usize, Kind)>) {
+fn reported(answer: Result<Inspection, InspectFault>) -> (u64, Option<(usize, Kind)>) {
     match answer {
         Ok(inspection) => (inspection.records.all, None),
         Err(InspectFault::FirstLine(fault)) => (0, Some((fault.at, fault.kind))),
@@ -25,18 +25,18 @@ fn told(answer: Result<Inspection, InspectFault>) -> (u64, Option<(usize, Kind)>
 static CAPTURE: &str =
     "haboob-capture 2 0\ntier 9 1\npiece 0 9 18\nGET / HTTP/1.0\r\n\r\n\npiece 5 8 2\nab\nend 7 9\nstop 4\n";
 
-/// What is told of this capture where a read fails after so many, and how many reads failed.
-fn told_after(alloc: Global, good: usize) -> (u64, Option<(usize, Kind)>, u64) {
+/// What is reported of this capture where a read fails after so many, and how many reads failed.
+fn reported_after(alloc: Global, good: usize) -> (u64, Option<(usize, Kind)>, u64) {
     let mut reader = Input::new(Flaky::new(CAPTURE.as_bytes(), 3, good));
-    let (records, fault) = told(inspect(alloc, &mut reader));
+    let (records, fault) = reported(inspect(alloc, &mut reader));
     (records, fault, reader.failures())
 }
 
-/// Each read fails in turn: it is told with what the whole records before it hold, and not tried again.
+/// Each read fails in turn: it is reported with what the whole records before it hold, and not tried again.
 #[test]
 fn reads_failing(rt: HostRuntime) {
     for good in 0..1000usize {
-        match told_after(rt.alloc(), good) {
+        match reported_after(rt.alloc(), good) {
             (records, Some((at, kind)), failures) => {
                 let before = at.saturating_sub(1) as u64;
                 assert_eq!(rt; (kind, failures, before), (Kind::Read, 1, records));

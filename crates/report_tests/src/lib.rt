@@ -1,4 +1,4 @@
-//! Tests of what is told of a message, of a replay and of a capture: the crates `decision_table`, `report` and
+//! Tests of what is reported of a message, of a replay and of a capture: the crates `decision_table`, `report` and
 //! `inspection`. What a text shows stands in the rows of `tests/`.
 #![tactic(auto)]
 

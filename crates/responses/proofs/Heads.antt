@@ -13,8 +13,8 @@ use Rattle.page_cache.specs.Reference.{media_of, media_text}
 use Rattle.responses.specs.declared.slip.Persistence.{Persistence}
 use Rattle.responses.specs.declared.slip.Persistence.TheVariants.{Close, KeepAlive, Silent}
 use Rattle.responses.specs.declared.slip.Status.TheVariants.{BadRequest, NotFound, MethodNotAllowed, ContentTooLarge, NotImplemented, ServiceUnavailable}
-use Rattle.responses.specs.declared.slip.Given.{Given}
-use Rattle.responses.specs.declared.slip.Given.TheVariants.{Page, Known, Unmodified, Moved, Plain}
+use Rattle.responses.specs.declared.slip.ResponseKind.{ResponseKind}
+use Rattle.responses.specs.declared.slip.ResponseKind.TheVariants.{Page, Known, Unmodified, Moved, Plain}
 use Rattle.responses.specs.declared.slip.Slip.{Slip}
 use Rattle.responses.specs.Reference.{status_words, status_of, field_line, content_fields, described, changed, own_fields, connection_fields, fields_of, head_text}
 use Rattle.responses.specs.Replies.{HasLocation}
@@ -61,7 +61,7 @@ pub record InWords (code : ℕ) : Type 0 where
   pub number : digits_value 10 (take 3 (status_words code)) ≡ code
   pub reason : list_all is_value_byte (drop 4 (status_words code)) ≡ true
 
-pub in_words : {X : Type 0} (what : Given X) → InWords (status_of what)
+pub in_words : {X : Type 0} (what : ResponseKind X) → InWords (status_of what)
 in_words (Page file mtime) = record { words = refl; three = refl; digits = refl; number = refl; reason = refl }
 in_words (Known media len mtime) = record { words = refl; three = refl; digits = refl; number = refl; reason = refl }
 in_words (Moved location) = record { words = refl; three = refl; digits = refl; number = refl; reason = refl }
@@ -109,7 +109,7 @@ good_changed : (date mtime : ℕ) → date ≤ 253402300799 → AreGood (changed
 unfolding is_token_byte
 good_changed date mtime most = (record { some = omega arith; token = refl; value = good_imf_date (min mtime date) (omega arith) }, tt)
 
-good_own : {X : Type 0} (files : List File) (date : ℕ) (what : Given X) → date ≤ 253402300799 → HasLocation what → AreGood (own_fields files date what)
+good_own : {X : Type 0} (files : List File) (date : ℕ) (what : ResponseKind X) → date ≤ 253402300799 → HasLocation what → AreGood (own_fields files date what)
 unfolding is_token_byte
 good_own files date (Page file mtime) most has = good_joined (content_fields (media_text (media_of (file_of files file).name)) (length (file_of files file).bytes)) (changed date mtime) (good_content _ _ (record { all = media_value _ })) (good_changed date mtime most)
 good_own files date (Known media len mtime) most has = good_joined (content_fields (media_text media) len) (changed date mtime) (good_content _ _ (record { all = media_value media })) (good_changed date mtime most)

@@ -10,7 +10,7 @@ use Rattle.page_cache.specs.Pages.{page_fields}
 use Rattle.responses.specs.declared.slip.Slip.{Slip}
 use Rattle.responses.specs.Reference.{field_line, content_fields, described, status_words, status_text, head_text, content_of, reply_text}
 
--- what follows from what is told of an `Ok`
+-- what follows from what is reported of an `Ok`
 pub on_ok : {T E : Type 0} (P Q : Type 0) (r : Result T E) → (P → Q) → OnOk r P → OnOk r Q
 on_ok P Q (Ok x) follows is = follows is
 on_ok P Q (Err e) follows is = is

@@ -9,12 +9,12 @@ use Rattle.std.proofs.lemmas.Fmt.{decimal_is_IsNumeral, decimal_nonempty}
 use Rattle.httparse.specs.Grammar.{Field, ResponseHead, status_code, is_ows, skip_ows, trim_ows}
 use Rattle.httparse.proofs.TrimLemmas.{trim_ows_space}
 use Rattle.httparse.proofs.GrammarLemmas.{response_unique}
-use Rattle.http_requests.specs.Reference.{is_given, lines_of, same_text, values_of}
+use Rattle.http_requests.specs.Reference.{is_present, lines_of, same_text, values_of}
 use Rattle.paths.specs.declared.file.File.{File}
 use Rattle.paths.specs.Reference.{file_of}
 use Rattle.page_cache.specs.Reference.{media_of, media_text}
-use Rattle.responses.specs.declared.slip.Given.{Given}
-use Rattle.responses.specs.declared.slip.Given.TheVariants.{Page, Known, Unmodified, Moved, Plain}
+use Rattle.responses.specs.declared.slip.ResponseKind.{ResponseKind}
+use Rattle.responses.specs.declared.slip.ResponseKind.TheVariants.{Page, Known, Unmodified, Moved, Plain}
 use Rattle.responses.specs.declared.slip.Slip.{Slip}
 use Rattle.responses.specs.declared.slip.Persistence.{Persistence}
 use Rattle.responses.specs.declared.slip.Persistence.TheVariants.{Close, KeepAlive, Silent}
@@ -45,10 +45,10 @@ others name (field ∷ fields) none =
     let parts = both (not (str_eq_ignore_ascii_case field.0 name)) (has_none name fields) none in
     other name field (map as_field fields) (turned (str_eq_ignore_ascii_case field.0 name) parts.0) ∙ others name fields parts.1
 
-abbrev answer_fields : {X : Type 0} → List File → ℕ → Persistence → Given X → List (List ℕ × List ℕ)
+abbrev answer_fields : {X : Type 0} → List File → ℕ → Persistence → ResponseKind X → List (List ℕ × List ℕ)
 answer_fields files date link what = (codes "Date", imf_date date) ∷ (own_fields files date what ++ connection_fields link)
 
-no_coding_own : {X : Type 0} (files : List File) (date : ℕ) (what : Given X) → has_none (codes "transfer-encoding") (own_fields files date what) ≡ true
+no_coding_own : {X : Type 0} (files : List File) (date : ℕ) (what : ResponseKind X) → has_none (codes "transfer-encoding") (own_fields files date what) ≡ true
 no_coding_own files date (Page file mtime) = refl
 no_coding_own files date (Known media len mtime) = refl
 no_coding_own files date (Unmodified mtime) = refl
@@ -65,7 +65,7 @@ no_coding_linked Close = refl
 no_coding_linked KeepAlive = refl
 no_coding_linked Silent = refl
 
-no_coding : {X : Type 0} (files : List File) (date : ℕ) (link : Persistence) (what : Given X) → values_of (codes "transfer-encoding") (lines_of (map as_field (answer_fields files date link what))) ≡ []
+no_coding : {X : Type 0} (files : List File) (date : ℕ) (link : Persistence) (what : ResponseKind X) → values_of (codes "transfer-encoding") (lines_of (map as_field (answer_fields files date link what))) ≡ []
 no_coding files date link what =
     others (codes "transfer-encoding") (answer_fields files date link what)
     (list_all-append (λ field. not (str_eq_ignore_ascii_case field.0 (codes "transfer-encoding"))) (own_fields files date what) (connection_fields link) (no_coding_own files date what) (no_coding_linked link))
@@ -111,7 +111,7 @@ stated_number n lt =
 stated_by : (head : Bool) (h : ResponseHead) (status n : ℕ) → status_code h ≡ status → is_bodyless status ≡ false → head ≡ false → values_of (codes "transfer-encoding") (lines_of h.fields) ≡ []
     → values_of (codes "content-length") (lines_of h.fields) ≡ decimal n ∷ [] → n < 2 ^ 64 → body_length head h ≡ Some n
 stated_by head h status n code body get coding value lt =
-    let rest : List (List ℕ) → List (List ℕ) → Option ℕ = λ c v. cond (is_given c) None (stated_length v) in
+    let rest : List (List ℕ) → List (List ℕ) → Option ℕ = λ c v. cond (is_present c) None (stated_length v) in
     ap (λ t. cond (t || is_bodyless (status_code h)) (Some 0) (rest (values_of (codes "transfer-encoding") (lines_of h.fields)) (values_of (codes "content-length") (lines_of h.fields)))) get
     ∙ ap (λ s. cond (is_bodyless s) (Some 0) (rest (values_of (codes "transfer-encoding") (lines_of h.fields)) (values_of (codes "content-length") (lines_of h.fields)))) code
     ∙ ap (λ t. cond t (Some 0) (rest (values_of (codes "transfer-encoding") (lines_of h.fields)) (values_of (codes "content-length") (lines_of h.fields)))) body
@@ -120,7 +120,7 @@ stated_by head h status n code body get coding value lt =
     ∙ stated_number n lt
 
 -- what stands in the place of a body where the answer isn't to HEAD
-get_stated : {X : Type 0} (files : List File) (date : ℕ) (link : Persistence) (what : Given X) (h : ResponseHead) → OnlyHead false what → length (content_of files what) < 2 ^ 64
+get_stated : {X : Type 0} (files : List File) (date : ℕ) (link : Persistence) (what : ResponseKind X) (h : ResponseHead) → OnlyHead false what → length (content_of files what) < 2 ^ 64
     → status_code h ≡ status_of what → h.fields ≡ map as_field (answer_fields files date link what) → body_length false h ≡ Some (length (content_of files what))
 get_stated {X = X} files date link what h only fits code is =
     go what only fits code (ap (λ f. values_of (codes "transfer-encoding") (lines_of f)) is ∙ no_coding files date link what) (ap (λ f. values_of (codes "content-length") (lines_of f)) is)
@@ -130,11 +130,11 @@ get_stated {X = X} files date link what h only fits code is =
         → body_length false h ≡ Some (length (status_text status))
     as_text status back body none code coding value fits = stated_by false h status (length (status_text status)) code body refl coding (value ∙ lone_length (imf_date date) (codes "text/plain") (length (status_text status)) back none) fits
 
-    go : (what : Given X) → OnlyHead false what → length (content_of files what) < 2 ^ 64 → status_code h ≡ status_of what → values_of (codes "transfer-encoding") (lines_of h.fields) ≡ []
+    go : (what : ResponseKind X) → OnlyHead false what → length (content_of files what) < 2 ^ 64 → status_code h ≡ status_of what → values_of (codes "transfer-encoding") (lines_of h.fields) ≡ []
         → values_of (codes "content-length") (lines_of h.fields) ≡ values_of (codes "content-length") (lines_of (map as_field (answer_fields files date link what))) → body_length false h ≡ Some (length (content_of files what))
     go (Page file mtime) only fits code coding value = stated_by false h 200 (length (file_of files file).bytes) code refl refl coding (value ∙ lone_length (imf_date date) (media_text (media_of (file_of files file).name)) (length (file_of files file).bytes) (changed date mtime ++ connection_fields link) (no_length link)) fits
     go (Known media len mtime) only fits code coding value = absurd (cc)
-    go (Unmodified mtime) only fits code coding value = ap (λ s. cond (is_bodyless s) (Some 0) (cond (is_given (values_of (codes "transfer-encoding") (lines_of h.fields))) None (stated_length (values_of (codes "content-length") (lines_of h.fields))))) code
+    go (Unmodified mtime) only fits code coding value = ap (λ s. cond (is_bodyless s) (Some 0) (cond (is_present (values_of (codes "transfer-encoding") (lines_of h.fields))) None (stated_length (values_of (codes "content-length") (lines_of h.fields))))) code
     go (Moved location) only fits code coding value = as_text 301 ((codes "Location", location) ∷ connection_fields link) refl (no_length link) code coding value fits
     go (Plain BadRequest) only fits code coding value = as_text 400 (connection_fields link) refl (no_length link) code coding value fits
     go (Plain NotFound) only fits code coding value = as_text 404 (connection_fields link) refl (no_length link) code coding value fits
@@ -143,7 +143,7 @@ get_stated {X = X} files date link what h only fits code is =
     go (Plain NotImplemented) only fits code coding value = as_text 501 (connection_fields link) refl (no_length link) code coding value fits
     go (Plain (ServiceUnavailable seconds)) only fits code coding value = as_text 503 ((codes "Retry-After", decimal seconds) ∷ connection_fields link) refl (no_length link) code coding value fits
 
-stated : {X : Type 0} (files : List File) (date : ℕ) (link : Persistence) (what : Given X) (head : Bool) (h : ResponseHead) → OnlyHead head what
+stated : {X : Type 0} (files : List File) (date : ℕ) (link : Persistence) (what : ResponseKind X) (head : Bool) (h : ResponseHead) → OnlyHead head what
     → (head ≡ false → length (content_of files what) < 2 ^ 64) → status_code h ≡ status_of what → h.fields ≡ map as_field (answer_fields files date link what)
     → body_length head h ≡ Some (length (cond head [] (content_of files what)))
 stated files date link what true h only fits code is = refl

@@ -4,7 +4,7 @@ use Rattle.std.specs.Prelude.{◌≡◌, ℕ, ◌/◌, ◌==◌, ◌||◌, Bool,
 use Rattle.std.specs.Prelude.{None, codes, if◌then◌else◌}
 use Rattle.std.specs.Str.Parse.{digits_value}
 use Rattle.httparse.specs.Grammar.{ResponseHead, ReadsResponse, status_code}
-use Rattle.http_requests.specs.Reference.{is_given, is_numeral, lines_of, values_of}
+use Rattle.http_requests.specs.Reference.{is_present, is_numeral, lines_of, values_of}
 
 -- the number of a lone Content-Length: one digit or more, and nothing else (RFC 9110, 8.6)
 abbrev pub stated_length : List (List ℕ) → Option ℕ
@@ -21,7 +21,7 @@ is_bodyless status = (status / 100 == 1) || (status == 204) || (status == 304)
 abbrev pub body_length : Bool → ResponseHead → Option ℕ
 body_length head h =
     if head || is_bodyless (status_code h) then Some 0
-    else if is_given (values_of (codes "transfer-encoding") (lines_of h.fields)) then None
+    else if is_present (values_of (codes "transfer-encoding") (lines_of h.fields)) then None
     else stated_length (values_of (codes "content-length") (lines_of h.fields))
 
 -- the bytes begin with this head and the body that it tells of, and the rest follows

@@ -12,8 +12,8 @@ use Rattle.responses.specs.declared.slip.Persistence.{Persistence}
 use Rattle.responses.specs.declared.slip.Persistence.TheVariants.{Close, KeepAlive, Silent}
 use Rattle.responses.specs.declared.slip.Status.TheVariants.{BadRequest, NotFound, MethodNotAllowed, ContentTooLarge}
 use Rattle.responses.specs.declared.slip.Status.TheVariants.{NotImplemented, ServiceUnavailable}
-use Rattle.responses.specs.declared.slip.Given.{Given}
-use Rattle.responses.specs.declared.slip.Given.TheVariants.{Page, Known, Unmodified, Moved, Plain}
+use Rattle.responses.specs.declared.slip.ResponseKind.{ResponseKind}
+use Rattle.responses.specs.declared.slip.ResponseKind.TheVariants.{Page, Known, Unmodified, Moved, Plain}
 use Rattle.responses.specs.declared.slip.Slip.{Slip}
 
 -- The statuses that a reply may have, each with its reason (RFC 9110, 15), in the order of a report.
@@ -31,7 +31,7 @@ abbrev pub status_words : ℕ → List ℕ
 status_words code = unwrap_or (lookup (nat_eq code) status_rows) []
 
 -- the status of each answer
-abbrev pub status_of : {X : Type 0} → Given X → ℕ
+abbrev pub status_of : {X : Type 0} → ResponseKind X → ℕ
 status_of (Page file mtime) = 200
 status_of (Known media len mtime) = 200
 status_of (Moved location) = 301
@@ -92,7 +92,7 @@ abbrev pub changed : ℕ → ℕ → List (List ℕ × List ℕ)
 changed date mtime = (codes "Last-Modified", imf_date (min mtime date)) ∷ []
 
 -- the fields that each answer has of its own, at this date
-abbrev pub own_fields : {X : Type 0} → List File → ℕ → Given X → List (List ℕ × List ℕ)
+abbrev pub own_fields : {X : Type 0} → List File → ℕ → ResponseKind X → List (List ℕ × List ℕ)
 own_fields files date (Page file mtime) =
     content_fields (media_text (media_of (file_of files file).name)) (length (file_of files file).bytes)
     ++ changed date mtime
@@ -120,7 +120,7 @@ head_text files slip = codes "HTTP/1.1 " ++ status_words (status_of slip.what) +
     ++ flat_map field_line (fields_of files slip) ++ codes "\r\n"
 
 -- the body that GET has: the file's bytes, or the status as a line; none at 304
-abbrev pub content_of : {X : Type 0} → List File → Given X → List ℕ
+abbrev pub content_of : {X : Type 0} → List File → ResponseKind X → List ℕ
 content_of files (Page file mtime) = (file_of files file).bytes
 content_of files (Known media len mtime) = []
 content_of files (Unmodified mtime) = []

@@ -5,24 +5,24 @@ use Rattle.std.specs.List.{list_all}
 use Rattle.paths.specs.Reference.{file_of}
 use Rattle.std.specs.Char.{is_ascii_graphic}
 use Rattle.paths.specs.declared.file.File.{File}
-use Rattle.responses.specs.declared.slip.Given.{Given}
-use Rattle.responses.specs.declared.slip.Given.TheVariants.{Page, Known, Unmodified, Moved}
+use Rattle.responses.specs.declared.slip.ResponseKind.{ResponseKind}
+use Rattle.responses.specs.declared.slip.ResponseKind.TheVariants.{Page, Known, Unmodified, Moved}
 use Rattle.responses.specs.declared.slip.Slip.{Slip}
 use Rattle.responses.specs.Reference.{status_of, status_text, content_of, head_text, field_line}
 
 -- What is asked of a slip: a length without its bytes answers HEAD alone ..
-abbrev pub OnlyHead : {X : Type 0} → Bool → Given X → Type 0
+abbrev pub OnlyHead : {X : Type 0} → Bool → ResponseKind X → Type 0
 OnlyHead head (Known media len mtime) = head ≡ true
 OnlyHead head what = ⊤
 
 -- .. and a location is of visible characters of ASCII, as all of a URI are (RFC 3986, 2); so is each that `locate` of
 -- `paths` answers
-abbrev pub HasLocation : {X : Type 0} → Given X → Type 0
+abbrev pub HasLocation : {X : Type 0} → ResponseKind X → Type 0
 HasLocation (Moved location) = list_all is_ascii_graphic location ≡ true
 HasLocation what = ⊤
 
 -- The body of a GET in the two parts in which a reply is held: the line, and the bytes of the page that is shared.
-abbrev pub note_of : {X : Type 0} → Given X → List ℕ
+abbrev pub note_of : {X : Type 0} → ResponseKind X → List ℕ
 note_of (Page file mtime) = []
 note_of (Known media len mtime) = []
 note_of (Unmodified mtime) = []

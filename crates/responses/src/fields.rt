@@ -8,7 +8,7 @@ ghost use Rattle.responses.specs.Replies.{AddsFields};
 
 use crate::dates::DateText;
 use crate::head::{push_date, push_field, push_number};
-use crate::{Given, Persistence, Status};
+use crate::{Persistence, ResponseKind, Status};
 use paths::Tree;
 use std::alloc::AllocError;
 
@@ -21,7 +21,7 @@ fn push_content(head: &mut Vec<u8>, media: &[u8], len: u64) -> Result<(), AllocE
 }
 
 /// Adds Content-Type and Content-Length of a content that is the status as a line.
-fn push_described<F: Tree>(head: &mut Vec<u8>, what: &Given<F>) -> Result<(), AllocError>
+fn push_described<F: Tree>(head: &mut Vec<u8>, what: &ResponseKind<F>) -> Result<(), AllocError>
     ensures { AddsFields head.old.items head.new.items result (described (status_of what.now)) }
 {
     let len = what.status_words().len() as u64 + 1;
@@ -46,26 +46,26 @@ pub(crate) fn push_own<F: Tree>(
     head: &mut Vec<u8>,
     kept: &mut DateText,
     date: u64,
-    what: &Given<F>,
+    what: &ResponseKind<F>,
 ) -> Result<(), AllocError>
     requires { date ≤ max_time }
     ensures { AddsFields head.old.items head.new.items result (own_fields F.files date what.now) }
 {
     match what {
-        Given::Page { page, mtime } => {
+        ResponseKind::Page { page, mtime } => {
             head.extend_from_slice(page.fields())?;
             push_changed(head, kept, date, *mtime)
         }
-        Given::Known { media, len, mtime } => {
+        ResponseKind::Known { media, len, mtime } => {
             push_content(head, media.text().as_bytes(), *len)?;
             push_changed(head, kept, date, *mtime)
         }
-        Given::Unmodified { mtime } => push_changed(head, kept, date, *mtime),
-        Given::Moved { location } => {
+        ResponseKind::Unmodified { mtime } => push_changed(head, kept, date, *mtime),
+        ResponseKind::Moved { location } => {
             push_described(head, what)?;
             push_field(head, b"Location", location.as_slice())
         }
-        Given::Plain { status } => {
+        ResponseKind::Plain { status } => {
             push_described(head, what)?;
             match status {
                 Status::MethodNotAllowed => push_field(head, b"Allow", b"GET, HEAD"),

@@ -15,4 +15,4 @@ pub use record::{write_record, write_reply};
 pub use rendering::HeadRenderer;
 pub use reply::{Reply, render};
 pub use shared_page::SharedPage;
-pub use slip::{Given, OK_PLACE, Persistence, STATUS_CODES, Slip, Status};
+pub use slip::{OK_PLACE, Persistence, ResponseKind, STATUS_CODES, Slip, Status};

@@ -1,4 +1,4 @@
-//! The head of a reply, rendered in a room that is kept for the next.
+//! The head of a reply, rendered in a buffer that is kept for the next.
 
 ghost use Rattle.std.specs.Prelude.{◌≡◌, ◌≤◌, [], OnOk, OnErr};
 ghost use Rattle.paths.specs.Snapshots.{max_time};
@@ -12,7 +12,7 @@ use paths::Tree;
 use std::alloc::{AllocError, Global};
 use std::marker::Model;
 
-/// Writes the head of a reply into a room that is empty.
+/// Writes the head of a reply into an empty buffer.
 pub(crate) fn push_head<F: Tree>(
     head: &mut Vec<u8>,
     dates: &mut Dates,
@@ -32,8 +32,8 @@ pub(crate) fn push_head<F: Tree>(
     Ok(())
 }
 
-/// Renders the heads of replies, one after another in the same room. The text of a date is kept for the next head that
-/// has it.
+/// Renders the heads of replies, one after another in the same buffer. The text of a date is kept for the next head
+/// that has it.
 ///
 /// Contracts see the last head.
 #[derive(Drop)]

@@ -8,13 +8,13 @@ ghost use Rattle.responses.specs.Messages.{IsReply};
 
 use crate::dates::Dates;
 use crate::rendering::push_head;
-use crate::{Given, SharedPage, Slip};
+use crate::{ResponseKind, SharedPage, Slip};
 use paths::Tree;
 use std::alloc::{AllocError, Global};
 use std::marker::Model;
 
 /// Room for most heads, in bytes.
-const HEAD_ROOM: usize = 256;
+const HEAD_CAPACITY: usize = 256;
 
 /// The reply to a message. It shares the page of the file that it gives.
 ///
@@ -69,13 +69,13 @@ fn render_head<F: Tree>(alloc: Global, slip: &Slip<F>) -> Result<Vec<u8>, AllocE
     requires { slip.now.date ≤ max_time }
     ensures { IfOk result (λ head. head.items ≡ head_text F.files slip.now) }
 {
-    let mut head = Vec::with_capacity(alloc, HEAD_ROOM)?;
+    let mut head = Vec::with_capacity(alloc, HEAD_CAPACITY)?;
     push_head(&mut head, &mut Dates::of(slip.date), slip)?;
     Ok(head)
 }
 
 /// Adds the status as a line.
-fn push_status<F: Tree>(front: &mut Vec<u8>, what: &Given<F>) -> Result<(), AllocError>
+fn push_status<F: Tree>(front: &mut Vec<u8>, what: &ResponseKind<F>) -> Result<(), AllocError>
     ensures { OnOk result (front.new.items ≡ front.old.items ++ status_text (status_of what.now)) }
 {
     front.extend_from_slice(what.status_words())?;
@@ -84,33 +84,35 @@ fn push_status<F: Tree>(front: &mut Vec<u8>, what: &Given<F>) -> Result<(), Allo
 }
 
 /// Adds the body, where it is no file's.
-fn push_note<F: Tree>(front: &mut Vec<u8>, what: &Given<F>) -> Result<(), AllocError>
+fn push_note<F: Tree>(front: &mut Vec<u8>, what: &ResponseKind<F>) -> Result<(), AllocError>
     ensures { OnOk result (front.new.items ≡ front.old.items ++ note_of what.now) }
 {
     match what {
-        Given::Page { .. } | Given::Known { .. } | Given::Unmodified { .. } => Ok(()),
-        Given::Moved { .. } => push_status(front, what),
-        Given::Plain { .. } => push_status(front, what),
+        ResponseKind::Page { .. } | ResponseKind::Known { .. } | ResponseKind::Unmodified { .. } =>
+            Ok(()),
+        ResponseKind::Moved { .. } => push_status(front, what),
+        ResponseKind::Plain { .. } => push_status(front, what),
     }
 }
 
 /// The page whose bytes are the body.
-fn shared_page<F: Tree>(what: Given<F>) -> Option<SharedPage<F>>
+fn shared_page<F: Tree>(what: ResponseKind<F>) -> Option<SharedPage<F>>
     ensures parts { content_of F.files what ≡ note_of what ++ held_body F.files result }
     ensures size { length (content_of F.files what) < 2 ^ 64 }
 {
     match what {
-        Given::Page {
+        ResponseKind::Page {
             page,
             mtime: _mtime,
         } => {
             let _size = page.body().len();
             Some(page)
         }
-        Given::Moved {
+        ResponseKind::Moved {
             location: _location,
         } => None,
-        Given::Known { .. } | Given::Unmodified { .. } | Given::Plain { .. } => None,
+        ResponseKind::Known { .. } | ResponseKind::Unmodified { .. } | ResponseKind::Plain { .. } =>
+            None,
     }
 }
 

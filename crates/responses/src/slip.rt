@@ -2,7 +2,7 @@
 
 ghost use Rattle.std.specs.Prelude.{◌≡◌, slice_get};
 ghost use Rattle.responses.specs.Reference.{status_of, status_words, statuses};
-ghost use Rattle.responses.specs.declared.slip.Given.TheVariants.{Plain};
+ghost use Rattle.responses.specs.declared.slip.ResponseKind.TheVariants.{Plain};
 
 use crate::SharedPage;
 use devices::Bytes;
@@ -63,7 +63,7 @@ impl Status {
 /// What a request is answered with; `mtime` is when the file was last changed, in seconds since 1970-01-01. The type
 /// names the snapshot of the pages.
 #[derive(Drop)]
-pub enum Given<F: Tree> {
+pub enum ResponseKind<F: Tree> {
     /// 200 with the bytes of a file.
     Page {
         page: SharedPage<F>,
@@ -91,17 +91,17 @@ pub enum Given<F: Tree> {
     },
 }
 
-impl<F: Tree> Given<F> {
+impl<F: Tree> ResponseKind<F> {
     /// The place of the code of its status in `STATUS_CODES`, and the code with its reason.
     fn row(&self) -> (usize, &'static [u8])
         ensures place { slice_get statuses result.0 ≡ Some (status_of self.now) }
         ensures words { result.1.now ≡ status_words (status_of self.now) }
     {
         match self {
-            Given::Page { .. } | Given::Known { .. } => (OK_PLACE, b"200 OK"),
-            Given::Moved { .. } => (1, b"301 Moved Permanently"),
-            Given::Unmodified { .. } => (2, b"304 Not Modified"),
-            Given::Plain { status } => status.row(),
+            ResponseKind::Page { .. } | ResponseKind::Known { .. } => (OK_PLACE, b"200 OK"),
+            ResponseKind::Moved { .. } => (1, b"301 Moved Permanently"),
+            ResponseKind::Unmodified { .. } => (2, b"304 Not Modified"),
+            ResponseKind::Plain { status } => status.row(),
         }
     }
 
@@ -139,5 +139,5 @@ pub struct Slip<F: Tree> {
     /// Whether it answers HEAD, and so has no body (RFC 9110, section 9.3.2).
     pub head: bool,
     pub link: Persistence,
-    pub what: Given<F>,
+    pub what: ResponseKind<F>,
 }

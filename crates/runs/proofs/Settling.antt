@@ -4,7 +4,7 @@ use Rattle.faults.specs.declared.fault.Fault.{Fault}
 use Rattle.faults.specs.declared.fault.Fault.TheVariants.{Write, Memory}
 use Rattle.faults.specs.declared.fault.Place.{Place}
 use Rattle.faults.specs.declared.fault.Place.TheVariants.{Replies, Report}
-use Rattle.runs.specs.Ports.{Port, Settles, Whole, NotDue, CutShort, AtDevices, Runs}
+use Rattle.runs.specs.Ports.{Port, Finishes, Whole, Incomplete, CutShort, AtDevices, Runs}
 
 -- what is weaker of an end, and of a fault
 pub ok_weaker : (P Q : Type 0) (ran : Result Unit Fault) → (P → Q) → OnOk ran P → OnOk ran Q
@@ -16,14 +16,14 @@ fault_weaker P Q (Ok done) weaker says = tt
 fault_weaker P Q (Err f) weaker says = weaker f says
 
 -- a buffer leaves what the run came to, or that the rest of an output can't be written
-ok_settled : (Q : Type 0) (due : Bool) (place : Place) (old whole new : Option (List ℕ)) (ran reported : Result Unit Fault) → OnOk ran Q → Settles due place old whole new ran reported → OnOk reported Q
+ok_settled : (Q : Type 0) (due : Bool) (place : Place) (old whole new : Option (List ℕ)) (ran reported : Result Unit Fault) → OnOk ran Q → Finishes due place old whole new ran reported → OnOk reported Q
 ok_settled Q due place old whole new ran reported says (Whole is same keeps) = rw same says
-ok_settled Q due place old whole new ran reported says (NotDue is same part) = rw same says
+ok_settled Q due place old whole new ran reported says (Incomplete is same part) = rw same says
 ok_settled Q due place old whole new ran reported says (CutShort is unwritten part) = rw unwritten tt
 
-fault_settled : (Q : Fault → Type 0) (due : Bool) (place : Place) (old whole new : Option (List ℕ)) (ran reported : Result Unit Fault) → Q (Write place) → IfErr ran Q → Settles due place old whole new ran reported → IfErr reported Q
+fault_settled : (Q : Fault → Type 0) (due : Bool) (place : Place) (old whole new : Option (List ℕ)) (ran reported : Result Unit Fault) → Q (Write place) → IfErr ran Q → Finishes due place old whole new ran reported → IfErr reported Q
 fault_settled Q due place old whole new ran reported write says (Whole is same keeps) = rw same says
-fault_settled Q due place old whole new ran reported write says (NotDue is same part) = rw same says
+fault_settled Q due place old whole new ran reported write says (Incomplete is same part) = rw same says
 fault_settled Q due place old whole new ran reported write says (CutShort is unwritten part) = rw unwritten write
 
 -- a run over one output

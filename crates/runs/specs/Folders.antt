@@ -144,7 +144,7 @@ output_failures other = 0
 
 -- ---- one step
 
--- P holds of the files that a writer took until now, and of what stood before them
+-- P holds of the files that a writer took until now, and of what was there before them
 abbrev pub AfterTaking : Option (List ℕ) → FilesSoFar → (List File → Option (List ℕ) → Type 0) → Type 0
 AfterTaking now writer P = (files : List File) (before : Option (List ℕ)) → Took files before now writer
     → P files before

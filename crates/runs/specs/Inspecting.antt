@@ -56,8 +56,8 @@ IsInspectFilesFault input (Write Report) = Unit {0}
 IsInspectFilesFault input Memory = Unit {0}
 IsInspectFilesFault input other = ⊥
 
--- a read that failed may go untold where the figures before it can't be written, and where memory runs out
-abbrev pub is_untold : Fault → Bool
-is_untold (Write Report) = true
-is_untold Memory = true
-is_untold other = false
+-- a read that failed may go unreported where the figures before it can't be written, and where memory runs out
+abbrev pub is_unreported : Fault → Bool
+is_unreported (Write Report) = true
+is_unreported Memory = true
+is_unreported other = false

@@ -3,7 +3,7 @@ use Rattle.devices.specs.Devices.{Device, AppendsProperPrefix, fresh}
 use Rattle.std.specs.Prelude.{◌≡◌, ◌⊎◌, ℕ, Bool, true, false, not, is_ok, List, ◌++◌, length, take, Option, Some, None}
 use Rattle.std.specs.Prelude.{Result, Ok, Err, OnOk}
 use Rattle.std.specs.Io.KnownBytes.{Keeps}
-use Rattle.captures.specs.Passes.{BlamesReader}
+use Rattle.captures.specs.Passes.{AttributesReads}
 use Rattle.faults.specs.declared.fault.Fault.{Fault}
 use Rattle.faults.specs.declared.fault.Fault.TheVariants.{Replay, Upgrade, Slim, Write, Memory}
 use Rattle.faults.specs.declared.fault.Place.{Place}
@@ -25,26 +25,26 @@ pub record Port : Type 0 where
 abbrev pub port : Device → Device → Port
 port old new = record { old = old; new = new }
 
--- of known bytes those in the place of what stood before
+-- of known bytes those in the place of what it held before
 abbrev pub front_of : Option (List ℕ) → Option (List ℕ) → Option (List ℕ)
-front_of (Some stood) (Some now) = Some (take (length stood) now)
-front_of stood now = None
+front_of (Some initial) (Some now) = Some (take (length initial) now)
+front_of initial now = None
 
--- what stood before stands, and after it a prefix of what was to follow: where the bytes are known
+-- what it held before is still there, and after it a prefix of what was to follow: where the bytes are known
 abbrev pub IsPrefix : Option (List ℕ) → Option (List ℕ) → Option (List ℕ) → Type 0
 IsPrefix None whole now = Unit {0}
-IsPrefix (Some stood) (Some whole) (Some now) = (more rest : List ℕ) × (now ≡ stood ++ more) × (whole ≡ now ++ rest)
-IsPrefix (Some stood) whole now = ⊥
+IsPrefix (Some initial) (Some whole) (Some now) = (more rest : List ℕ) × (now ≡ initial ++ more) × (whole ≡ now ++ rest)
+IsPrefix (Some initial) whole now = ⊥
 
 -- The buffer before a device was to hold `whole` after the run. Either it was due, and all of it stands at the device;
 -- or it wasn't due any more, and a prefix stands; or it was due and a write failed, which is then the fault, and a
 -- prefix stands.
-pub data Settles (due : Bool) (place : Place) (old whole new : Option (List ℕ)) (ran reported : Result Unit Fault)
+pub data Finishes (due : Bool) (place : Place) (old whole new : Option (List ℕ)) (ran reported : Result Unit Fault)
     : Type 0 where
-  Whole : due ≡ true → reported ≡ ran → Keeps whole new → Settles due place old whole new ran reported
-  NotDue : due ≡ false → reported ≡ ran → IsPrefix old whole new → Settles due place old whole new ran reported
+  Whole : due ≡ true → reported ≡ ran → Keeps whole new → Finishes due place old whole new ran reported
+  Incomplete : due ≡ false → reported ≡ ran → IsPrefix old whole new → Finishes due place old whole new ran reported
   CutShort : due ≡ true → reported ≡ Err (Write place) → IsPrefix old whole new
-      → Settles due place old whole new ran reported
+      → Finishes due place old whole new ran reported
 
 -- a write failed at this place in a run that came to this fault
 abbrev pub is_failed_write : Place → Fault → Bool
@@ -56,14 +56,14 @@ is_failed_write Output (Write Output) = true
 is_failed_write Report (Write Report) = true
 is_failed_write place other = false
 
--- whether it is told that a write failed at this place
-abbrev pub blames : Place → Result Unit Fault → Bool
-blames place (Ok done) = false
-blames place (Err f) = is_failed_write place f
+-- whether it is reported that a write failed at this place
+abbrev pub reports_write : Place → Result Unit Fault → Bool
+reports_write place (Ok done) = false
+reports_write place (Err f) = is_failed_write place f
 
 -- no other write is made where one failed
 abbrev pub is_due : Place → Result Unit Fault → Bool
-is_due place ran = not (blames place ran)
+is_due place ran = not (reports_write place ran)
 
 -- A run over one output, whose port at the buffer is `port (fresh old) whole`, came to `ran`, of which P holds.
 pub record AtDevice (place : Place) (P : Port → Result Unit Fault → Type 0) (old new : Option (List ℕ))
@@ -71,7 +71,7 @@ pub record AtDevice (place : Place) (P : Port → Result Unit Fault → Type 0) 
   pub ran : Result Unit Fault
   pub whole : Device
   pub says : P (port (fresh old) whole) ran
-  pub stands : Settles (is_due place ran) place old whole.bytes new ran reported
+  pub stands : Finishes (is_due place ran) place old whole.bytes new ran reported
 
 -- there was no memory for the buffers, and nothing was written
 abbrev pub Refused : Option (List ℕ) → Option (List ℕ) → Result Unit Fault → Type 0
@@ -92,31 +92,33 @@ RunsJob place P before after old new reported =
 abbrev pub Reads : (Port → Port → Result Unit Fault → Type 0) → Option (List ℕ) → Port → Result Unit Fault → Type 0
 Reads P bytes output ran = (left : Device) × P (port (fresh bytes) left) output ran
 
--- a read that failed may go untold where what a buffer held can't be written, and where memory runs out
+-- a read that failed may go unreported where what a buffer held can't be written, and where memory runs out
 abbrev pub is_cut : Fault → Bool
 is_cut (Write place) = true
 is_cut Memory = true
 is_cut other = false
 
--- what a run says, and that its reader is blamed where it failed, but where that may go untold
-abbrev pub Blaming : (Fault → ℕ) → (Fault → Bool) → (Port → Port → Result Unit Fault → Type 0) → Port → Port
+-- what a run says, and that its reader is reported where it failed, but where that may go unreported
+abbrev pub Attributing : (Fault → ℕ) → (Fault → Bool) → (Port → Port → Result Unit Fault → Type 0) → Port → Port
     → Result Unit Fault → Type 0
-Blaming blamed untold P input output ran =
-    P input output ran × BlamesReader blamed untold input.old.failures input.new.failures ran
+Attributing attributed unreported P input output ran =
+    P input output ran × AttributesReads attributed unreported input.old.failures input.new.failures ran
 
--- What is told of what a run came to: this; but where it is a failed write of this place and the writer didn't fail,
--- there was no memory for what was to wait before it.
-pub data IsTold (place : Place) (failed : Bool) (ran told : Result Unit Fault) : Type 0 where
-  Same : told ≡ ran → (blames place ran ≡ true → failed ≡ true) → IsTold place failed ran told
-  Lacks : told ≡ Err Memory → blames place ran ≡ true → failed ≡ false → IsTold place failed ran told
+-- What is reported of what a run came to: this; but where it is a failed write of this place and the writer didn't
+-- fail, there was no memory for what was to wait before it.
+pub data IsReported (place : Place) (failed : Bool) (ran reported : Result Unit Fault) : Type 0 where
+  Same : reported ≡ ran → (reports_write place ran ≡ true → failed ≡ true) → IsReported place failed ran reported
+  Lacks : reported ≡ Err Memory → reports_write place ran ≡ true → failed ≡ false → IsReported place failed ran reported
 
--- P holds of what is told, or of a failed write of this place that is told as out of memory
+-- P holds of what is reported, or of a failed write of this place that is reported as out of memory
 abbrev pub Tells : Place → (Result Unit Fault → Type 0) → Result Unit Fault → Type 0
-Tells place P told = P told ⊎ ((ran : Result Unit Fault) × P ran × (blames place ran ≡ true) × (told ≡ Err Memory))
+Tells place P reported = P reported
+    ⊎ ((ran : Result Unit Fault) × P ran × (reports_write place ran ≡ true) × (reported ≡ Err Memory))
 
--- the writer at this place is blamed only where it failed, and didn't fail at Ok
-abbrev pub BlamesWriter : Place → Bool → Result Unit Fault → Type 0
-BlamesWriter place failed told = (blames place told ≡ true → failed ≡ true) × OnOk told (failed ≡ false)
+-- the writer at this place is reported only where it failed, and didn't fail at Ok
+abbrev pub AttributesWrites : Place → Bool → Result Unit Fault → Type 0
+AttributesWrites place failed reported =
+    (reports_write place reported ≡ true → failed ≡ true) × OnOk reported (failed ≡ false)
 
 -- The same of a run over the devices of the replies and of the report. Whatever the fault, no more of the report is
 -- due.
@@ -127,8 +129,8 @@ pub record AtDevices (P : Port → Port → Result Unit Fault → Type 0) (old n
   pub out_whole : Device
   pub rest : Result Unit Fault
   pub says : P (port (fresh old) whole) (port (fresh out_old) out_whole) ran
-  pub replies : Settles (is_due Replies ran) Replies old whole.bytes new ran rest
-  pub report : Settles (is_ok rest) Report out_old out_whole.bytes out_new rest reported
+  pub replies : Finishes (is_due Replies ran) Replies old whole.bytes new ran rest
+  pub report : Finishes (is_ok rest) Report out_old out_whole.bytes out_new rest reported
 
 abbrev pub RunsAtBoth : (Port → Port → Result Unit Fault → Type 0) → Option (List ℕ) → Option (List ℕ)
     → Option (List ℕ) → Option (List ℕ) → Result Unit Fault → Type 0

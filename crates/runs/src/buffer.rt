@@ -12,31 +12,31 @@ use std::io;
 use std::io::Write;
 use std::marker::{Brand, PhantomData};
 
-/// What stood at a device before a run.
-pub trait Stood {
+/// What a device held before a run.
+pub trait Initial {
     ghost use Rattle.std.specs.Prelude.{ℕ, List, Option};
 
-    ghost stood: { Option (List ℕ) };
+    ghost initial: { Option (List ℕ) };
 }
 
-impl Stood for Brand {
+impl Initial for Brand {
     ghost use Rattle.std.specs.Prelude.{None};
 
-    ghost stood = { None };
+    ghost initial = { None };
 }
 
-/// A device that holds what stood at it before the run, and after it what was written since.
+/// A device that holds what it held before the run, and after it what was written since.
 #[derive(Drop)]
-pub struct Device<N: Stood, W: Write> {
+pub struct Device<N: Initial, W: Write> {
     pub sink: Sink<W>,
     pub(crate) of: PhantomData<N>,
-    ghost begins: { front_of N.stood sink.bytes ≡ N.stood },
+    ghost begins: { front_of N.initial sink.bytes ≡ N.initial },
 }
 
-impl<N: Stood, W: Write> Device<N, W> {
+impl<N: Initial, W: Write> Device<N, W> {
     /// A device that nothing was written to yet.
     pub fn new(sink: Sink<W>) -> Device<N, W>
-        requires { sink.bytes ≡ N.stood }
+        requires { sink.bytes ≡ N.initial }
         ensures { result.sink ≡ sink }
     {
         Device {
@@ -48,7 +48,7 @@ impl<N: Stood, W: Write> Device<N, W> {
     /// The sink again.
     pub fn into_sink(self) -> Sink<W>
         ensures same { result ≡ self.sink }
-        ensures begins { front_of N.stood result.bytes ≡ N.stood }
+        ensures begins { front_of N.initial result.bytes ≡ N.initial }
     {
         self.sink
     }
@@ -91,19 +91,19 @@ impl<N: Stood, W: Write> Device<N, W> {
     }
 }
 
-/// The room of the buffer before a device, in bytes.
-pub const ROOM: usize = 65_536;
+/// The capacity of the buffer before a device, in bytes.
+pub const BUFFER_BYTES: usize = 65_536;
 
 /// A buffer before a device. Each write is made once: one that was interrupted has failed, as any other. What was not
 /// written waits on, and [`Buffered::finish`] alone ends the buffer: nothing is written where it is dropped.
 #[derive(Drop)]
-pub struct Buffered<N: Stood, W: Write> {
+pub struct Buffered<N: Initial, W: Write> {
     pub device: Device<N, W>,
     pub waiting: Vec<u8>,
 }
 
-impl<N: Stood, W: Write> Buffered<N, W> {
-    /// A buffer in which nothing waits, in this room.
+impl<N: Initial, W: Write> Buffered<N, W> {
+    /// A buffer in which nothing waits, of this capacity.
     pub fn new(device: Device<N, W>, waiting: Vec<u8>) -> Buffered<N, W>
         requires { waiting.items ≡ [] }
         ensures device { result.device ≡ device }
@@ -120,7 +120,7 @@ impl<N: Stood, W: Write> Buffered<N, W> {
             (append_known self.new.device.sink.bytes self.new.waiting.items) }
         ensures over { MatchBool result
             (self.new.device.sink.over ≡ self.old.device.sink.over) (self.new.device.sink.over ≡ true) }
-        ensures room { vec_capacity self.new.waiting ≡ vec_capacity self.old.waiting }
+        ensures capacity { vec_capacity self.new.waiting ≡ vec_capacity self.old.waiting }
     {
         let (written, all) = self.device.write_out(&self.waiting);
         if all {
@@ -154,7 +154,7 @@ impl<N: Stood, W: Write> Buffered<N, W> {
         ensures kept { due ≡ false → result.0 ≡ self.device.sink }
         ensures all { result.1 ≡ true
             → Keeps (append_known self.device.sink.bytes self.waiting.items) result.0.bytes }
-        ensures part { IsPrefix N.stood
+        ensures part { IsPrefix N.initial
             (append_known self.device.sink.bytes self.waiting.items) result.0.bytes }
         ensures over { due ≡ true
             → MatchBool result.1 (result.0.over ≡ false) (result.0.over ≡ true) }
@@ -165,7 +165,7 @@ impl<N: Stood, W: Write> Buffered<N, W> {
     }
 }
 
-impl<N: Stood, W: Write> Write for Buffered<N, W> {
+impl<N: Initial, W: Write> Write for Buffered<N, W> {
     ghost use Rattle.std.specs.Io.KnownBytes.{WriteAppends, append_known};
     ghost use Rattle.std.specs.Io.{WritesAtMost};
     ghost use Rattle.std.specs.Prelude.{◌≡◌, ◌≤◌, ◌<◌, ◌+◌, Ok, OnErr, length};
@@ -178,24 +178,26 @@ impl<N: Stood, W: Write> Write for Buffered<N, W> {
         ensures bytes { WriteAppends
             (append_known self.old.device.sink.bytes self.old.waiting.items)
             (append_known self.new.device.sink.bytes self.new.waiting.items) result bytes.now }
-        // In a buffer whose room was made, what ends below the room is taken, and nothing is refused unless the device
-        // has failed.
+        // In a buffer whose capacity was reserved, what ends below it is taken, and nothing is refused unless the
+        // device has failed.
         ensures takes { 65536 ≤ vec_capacity self.old.waiting
             → length self.old.waiting.items + length bytes.now < 65536 → result ≡ Ok (length bytes.now) }
         ensures refuses { 65536 ≤ vec_capacity self.old.waiting
             → OnErr result (self.new.device.sink.over ≡ true) }
-        ensures room { vec_capacity self.old.waiting ≤ vec_capacity self.new.waiting }
+        ensures capacity { vec_capacity self.old.waiting ≤ vec_capacity self.new.waiting }
     {
-        if self.waiting.len() >= ROOM && !self.empty() {
+        if self.waiting.len() >= BUFFER_BYTES && !self.empty() {
             return Err(io::Error::other("unwritten"));
         }
-        if self.waiting.is_empty() && bytes.len() >= ROOM {
+        if self.waiting.is_empty() && bytes.len() >= BUFFER_BYTES {
             return match self.device.write(bytes) {
                 Ok(count) => Ok(count),
                 Err(_) => Err(io::Error::other("unwritten")),
             };
         }
-        let count = bytes.len().min(ROOM - self.waiting.len().min(ROOM));
+        let count = bytes
+            .len()
+            .min(BUFFER_BYTES - self.waiting.len().min(BUFFER_BYTES));
         self.waiting.extend_from_slice(&bytes[..count])?;
         Ok(count)
     }

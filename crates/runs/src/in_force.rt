@@ -4,10 +4,10 @@ ghost use Rattle.std.specs.Prelude.{◌≡◌, ◌⊎◌, ◌-◌, ◌<◌, ◌^
 ghost use Rattle.devices.specs.Devices.{CanFail, CountsBy};
 ghost use Rattle.settings.specs.WrittenOut.{AreSettings};
 ghost use Rattle.runs.specs.InForce.{IsSettingsFault, SettingsSays, WritesSettings};
-ghost use Rattle.runs.specs.Ports.{Runs, Tells, blames, port};
+ghost use Rattle.runs.specs.Ports.{Runs, Tells, reports_write, port};
 ghost use Rattle.runs.specs.Failures.{report_failures};
 
-use crate::running::{Job, run_blaming};
+use crate::running::{Job, run_attributing};
 use crate::sink::Sink;
 use devices::Output;
 use faults::{Fault, Place};
@@ -30,7 +30,7 @@ pub fn run_settings<W: Write>(
     requires { CanFail output.old }
     ensures ok { OnOk result (WritesSettings document.now (port output.old output.new)) }
     ensures fault { IfErr result (IsSettingsFault document.now (port output.old output.new)) }
-    // The writer is blamed only where it failed in this call.
+    // The writer is reported only where it failed in this call.
     ensures writes { CountsBy report_failures output.old.failures output.new.failures result }
     ensures settings { OnOk result (AreSettings document.now) }
 {
@@ -61,7 +61,7 @@ impl<'a> Job for Document<'a> {
 }
 
 /// Writes out the settings of a document, as [`run_settings`] does, with a buffer before the output, and gives it back.
-/// It is blamed only where it failed in this call.
+/// It is reported only where it failed in this call.
 ///
 /// # Errors
 ///
@@ -75,12 +75,12 @@ pub fn settings_into<W: Write + Drop>(
     requires writing { output.over ≡ false }
     ensures device { Tells Place.Report (Runs Place.Report (SettingsSays document.now)
         output.bytes result.1.bytes) result.0 }
-    ensures writes { result.1.over ≡ blames Place.Report result.0 }
+    ensures writes { result.1.over ≡ reports_write Place.Report result.0 }
 {
     let job = Document {
         alloc,
         bytes: document,
     };
-    let (ran, _, output) = run_blaming(alloc, job, Place::Report, output);
+    let (ran, _, output) = run_attributing(alloc, job, Place::Report, output);
     (ran, output)
 }

@@ -5,13 +5,13 @@ ghost use Rattle.std.specs.Io.KnownBytes.{Appends};
 ghost use Rattle.devices.specs.Devices.{CanFail, CountsBy};
 ghost use Rattle.devices.specs.Reference.{WhereKnown};
 ghost use Rattle.inspection.specs.Texts.{inspection_text};
-ghost use Rattle.captures.specs.Passes.{BlamesReader};
-ghost use Rattle.runs.specs.Inspecting.{is_untold, Inspects, IsInspectFault, IsInspectFilesFault, InspectSays};
-ghost use Rattle.runs.specs.Ports.{Reads, Runs, Tells, blames, port, IsReportFault};
+ghost use Rattle.captures.specs.Passes.{AttributesReads};
+ghost use Rattle.runs.specs.Inspecting.{is_unreported, Inspects, IsInspectFault, IsInspectFilesFault, InspectSays};
+ghost use Rattle.runs.specs.Ports.{Reads, Runs, Tells, reports_write, port, IsReportFault};
 ghost use Rattle.runs.specs.Failures.{capture_failures, report_failures};
 ghost use Rattle.runs.specs.Upgrading.{IsTextOfSomeFormat};
 
-use crate::running::{Job, buffered_input, run_blaming, run_buffered};
+use crate::running::{Job, buffered_input, run_attributing, run_buffered};
 use crate::sink::Sink;
 use captures::PassFault;
 use devices::{Input, Output};
@@ -57,9 +57,9 @@ pub fn run_inspect<R: Read, W: Write>(
     ensures ok { OnOk result (Inspects (port input.old input.new) (port output.old output.new)) }
     ensures fault { IfErr result
         (IsInspectFault (port input.old input.new) (port output.old output.new)) }
-    // A device is blamed only where it failed in this call. A read that failed may not be reported: where a write fails
-    // after it, or there is no memory.
-    ensures reads { BlamesReader capture_failures is_untold
+    // A device is reported only where it failed in this call. A read that failed may not be reported: where a write
+    // fails after it, or there is no memory.
+    ensures reads { AttributesReads capture_failures is_unreported
         input.old.failures input.new.failures result }
     ensures writes { CountsBy report_failures output.old.failures output.new.failures result }
 {
@@ -84,13 +84,13 @@ struct Inspecting<R: Read + Drop> {
 impl<R: Read + Drop> Job for Inspecting<R> {
     ghost use Rattle.std.specs.Prelude.{◌-◌, ◌<◌, ◌^◌};
     ghost use Rattle.devices.specs.Devices.{CanFail};
-    ghost use Rattle.runs.specs.Inspecting.{InspectSays, is_untold};
-    ghost use Rattle.runs.specs.Ports.{Blaming, port};
+    ghost use Rattle.runs.specs.Inspecting.{InspectSays, is_unreported};
+    ghost use Rattle.runs.specs.Ports.{Attributing, port};
     ghost use Rattle.runs.specs.Failures.{capture_failures};
 
     ghost ready = { λ job. CanFail job.input };
 
-    ghost says = { λ before after. Blaming capture_failures is_untold InspectSays (port before.input after.input) };
+    ghost says = { λ before after. Attributing capture_failures is_unreported InspectSays (port before.input after.input) };
 
     fn run<W: Write>(&mut self, output: &mut Output<W>) -> Result<(), Fault> {
         run_inspect(self.alloc, &mut self.input, output)
@@ -98,7 +98,7 @@ impl<R: Read + Drop> Job for Inspecting<R> {
 }
 
 /// Writes what a capture holds, as [`run_inspect`] does, with a buffer before the output, and gives input and output
-/// back. Each device is blamed only where it failed in this call.
+/// back. Each device is reported only where it failed in this call.
 ///
 /// # Errors
 ///
@@ -114,11 +114,16 @@ pub fn inspect_into<R: Read + Drop, W: Write + Drop>(
     requires writing { output.over ≡ false }
     ensures device { Tells Place.Report (Runs Place.Report (InspectSays (port input result.1))
         output.bytes result.2.bytes) result.0 }
-    ensures reads { BlamesReader capture_failures is_untold
+    ensures reads { AttributesReads capture_failures is_unreported
         input.failures result.1.failures result.0 }
-    ensures writes { result.2.over ≡ blames Place.Report result.0 }
+    ensures writes { result.2.over ≡ reports_write Place.Report result.0 }
 {
-    let (ran, job, output) = run_blaming(alloc, Inspecting { alloc, input }, Place::Report, output);
+    let (ran, job, output) = run_attributing(
+        alloc,
+        Inspecting { alloc, input },
+        Place::Report,
+        output,
+    );
     (ran, job.input, output)
 }
 

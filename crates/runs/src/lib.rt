@@ -13,11 +13,13 @@ mod slimming;
 mod snapshotting;
 mod upgrading;
 
-pub use buffer::{Buffered, Device, ROOM, Stood};
+pub use buffer::{BUFFER_BYTES, Buffered, Device, Initial};
 pub use folder::{Contents, Folder, Found, Unanswered};
 pub use in_force::{run_settings, settings_into};
 pub use inspecting::{inspect_files, inspect_into, run_inspect};
-pub use running::{Job, buffered, buffered_input, is_due, run_blaming, run_buffered, settle, told};
+pub use running::{
+    Job, buffered, buffered_input, finish_output, is_due, reported, run_attributing, run_buffered,
+};
 pub use sink::Sink;
 pub use slimming::{run_slim, slim_into};
 pub use snapshotting::run_snapshot;

@@ -1,13 +1,13 @@
 //! A pass that writes a capture anew, with a buffer before its output.
 
 ghost use Rattle.std.specs.Prelude.{◌≡◌, ◌⊎◌, ◌-◌, ◌<◌, ◌^◌, false};
-ghost use Rattle.captures.specs.Passes.{BlamesReader};
+ghost use Rattle.captures.specs.Passes.{AttributesReads};
 ghost use Rattle.devices.specs.Devices.{CanFail};
 ghost use Rattle.runs.specs.Failures.{reader_failures};
-ghost use Rattle.runs.specs.Ports.{Runs, Tells, blames, is_cut, port};
+ghost use Rattle.runs.specs.Ports.{Runs, Tells, reports_write, is_cut, port};
 ghost use Rattle.runs.specs.Slimming.{PassSays};
 
-use crate::running::{Job, run_blaming};
+use crate::running::{Job, run_attributing};
 use crate::sink::Sink;
 use crate::slimming::run_slim;
 use crate::upgrading::run_upgrade;
@@ -38,12 +38,12 @@ impl<R: Read + Drop> Job for Rewriting<R> {
     ghost use Rattle.std.specs.Prelude.{◌-◌, ◌<◌, ◌^◌};
     ghost use Rattle.devices.specs.Devices.{CanFail};
     ghost use Rattle.runs.specs.Failures.{reader_failures};
-    ghost use Rattle.runs.specs.Ports.{Blaming, is_cut, port};
+    ghost use Rattle.runs.specs.Ports.{Attributing, is_cut, port};
     ghost use Rattle.runs.specs.Slimming.{PassSays};
 
     ghost ready = { λ job. CanFail job.input };
 
-    ghost says = { λ before after. Blaming reader_failures is_cut (PassSays before.pass before.to)
+    ghost says = { λ before after. Attributing reader_failures is_cut (PassSays before.pass before.to)
         (port before.input after.input) };
 
     fn run<W: Write>(&mut self, output: &mut Output<W>) -> Result<(), Fault> {
@@ -54,7 +54,7 @@ impl<R: Read + Drop> Job for Rewriting<R> {
     }
 }
 
-/// Does a pass with a buffer before the output, and gives input and output back. Each device is blamed only where it
+/// Does a pass with a buffer before the output, and gives input and output back. Each device is reported only where it
 /// failed in this call.
 ///
 /// # Errors
@@ -73,8 +73,8 @@ pub(crate) fn rewrite_into<R: Read + Drop, W: Write + Drop>(
     requires writing { output.over ≡ false }
     ensures device { Tells Place.Output (Runs Place.Output (PassSays pass to (port input result.1))
         output.bytes result.2.bytes) result.0 }
-    ensures reads { BlamesReader reader_failures is_cut input.failures result.1.failures result.0 }
-    ensures writes { result.2.over ≡ blames Place.Output result.0 }
+    ensures reads { AttributesReads reader_failures is_cut input.failures result.1.failures result.0 }
+    ensures writes { result.2.over ≡ reports_write Place.Output result.0 }
 {
     let job = Rewriting {
         alloc,
@@ -82,6 +82,6 @@ pub(crate) fn rewrite_into<R: Read + Drop, W: Write + Drop>(
         input,
         to,
     };
-    let (ran, job, output) = run_blaming(alloc, job, Place::Output, output);
+    let (ran, job, output) = run_attributing(alloc, job, Place::Output, output);
     (ran, job.input, output)
 }

@@ -2,9 +2,9 @@
 
 ghost use Rattle.std.specs.Prelude.{◌≡◌, [], true, false, IfOk, IfErr};
 ghost use Rattle.devices.specs.Devices.{fresh};
-ghost use Rattle.runs.specs.Ports.{AtDevice, IsTold, RunsJob, Settles, Tells, blames, is_due};
+ghost use Rattle.runs.specs.Ports.{AtDevice, IsReported, RunsJob, Finishes, Tells, reports_write, is_due};
 
-use crate::buffer::{Buffered, Device, ROOM, Stood};
+use crate::buffer::{BUFFER_BYTES, Buffered, Device, Initial};
 use crate::sink::Sink;
 use captures::{PassFault, UpgradeFault};
 use devices::{Input, Output};
@@ -60,30 +60,30 @@ pub fn buffered_input<R: Read + Drop>(
     ensures input { IfOk result (λ input. input ≡ fresh (R.remaining reader)) }
     ensures refused { IfErr result (λ fault. fault ≡ Fault.Memory) }
 {
-    match BufReader::with_capacity(alloc, ROOM, reader) {
+    match BufReader::with_capacity(alloc, BUFFER_BYTES, reader) {
         Ok(reader) => Ok(Input::ahead(reader)),
         Err(_) => Err(Fault::Memory),
     }
 }
 
-/// An output with a buffer before its device, in this room.
-pub fn buffered<N: Stood, W: Write>(sink: Sink<W>, waiting: Vec<u8>) -> Output<Buffered<N, W>>
-    requires stood { sink.bytes ≡ N.stood }
+/// An output with a buffer before its device, of this capacity.
+pub fn buffered<N: Initial, W: Write>(sink: Sink<W>, waiting: Vec<u8>) -> Output<Buffered<N, W>>
+    requires initial { sink.bytes ≡ N.initial }
     requires waiting { waiting.items ≡ [] }
-    ensures { result ≡ fresh N.stood }
+    ensures { result ≡ fresh N.initial }
 {
     Output::new(Buffered::<N, W>::new(Device::new(sink), waiting))
 }
 
 /// Writes what the buffer before a device still holds, where it is due, and gives the device back. Where it was due and
 /// the device failed, that is the fault.
-pub fn settle<N: Stood, W: Write + Drop>(
+pub fn finish_output<N: Initial, W: Write + Drop>(
     output: Output<Buffered<N, W>>,
     place: Place,
     due: bool,
     ran: Result<(), Fault>,
 ) -> (Result<(), Fault>, Sink<W>)
-    ensures stands { Settles due place N.stood output.bytes result.1.bytes ran result.0 }
+    ensures stands { Finishes due place N.initial output.bytes result.1.bytes ran result.0 }
     ensures failed { due ≡ true → result.1.over ≡ true → result.0 ≡ Err (Fault.Write place) }
 {
     let (sink, done) = output.into_writer().finish(due);
@@ -95,23 +95,23 @@ pub fn settle<N: Stood, W: Write + Drop>(
 }
 
 /// Does a job over a buffer that was made.
-fn run_job<N: Stood, J: Job, W: Write + Drop>(
+fn run_job<N: Initial, J: Job, W: Write + Drop>(
     job: &mut J,
     place: Place,
     sink: Sink<W>,
     waiting: Vec<u8>,
 ) -> (Result<(), Fault>, Sink<W>)
     requires ready { J.ready job.old }
-    requires stood { sink.bytes ≡ N.stood }
+    requires initial { sink.bytes ≡ N.initial }
     requires waiting { waiting.items ≡ [] }
     ensures stands { AtDevice place (J.says job.old job.new) sink.bytes result.1.bytes result.0 }
-    ensures failed { blames place (Err (Fault.Write place)) ≡ true → result.1.over ≡ true
-        → blames place result.0 ≡ true }
+    ensures failed { reports_write place (Err (Fault.Write place)) ≡ true → result.1.over ≡ true
+        → reports_write place result.0 ≡ true }
 {
     let mut output = buffered::<N, W>(sink, waiting);
     let ran = job.run(&mut output);
     let due = is_due(place, &ran);
-    settle(output, place, due, ran)
+    finish_output(output, place, due, ran)
 }
 
 /// Does a job with a buffer before its output, and gives job and output back.
@@ -127,12 +127,12 @@ pub fn run_buffered<J: Job + Drop, W: Write + Drop>(
     sink: Sink<W>,
 ) -> (Result<(), Fault>, J, Sink<W>)
     requires ready { J.ready job }
-    requires place { blames place (Err (Fault.Write place)) ≡ true }
+    requires place { reports_write place (Err (Fault.Write place)) ≡ true }
     requires healthy { sink.over ≡ false }
     ensures stands { RunsJob place J.says job result.1 sink.bytes result.2.bytes result.0 }
-    ensures failed { result.2.over ≡ true → blames place result.0 ≡ true }
+    ensures failed { result.2.over ≡ true → reports_write place result.0 ≡ true }
 {
-    match Vec::with_capacity(alloc, ROOM) {
+    match Vec::with_capacity(alloc, BUFFER_BYTES) {
         Ok(waiting) => {
             let mut job = job;
             let (ran, sink) = run_job::<Brand, J, W>(&mut job, place, sink, waiting);
@@ -142,10 +142,10 @@ pub fn run_buffered<J: Job + Drop, W: Write + Drop>(
     }
 }
 
-/// What is told of what a run came to. A buffer refuses bytes where its device failed, and where there is no memory for
-/// what is to wait: so where a write failed and the device didn't, that is told.
-pub fn told(place: Place, ran: Result<(), Fault>, failed: bool) -> Result<(), Fault>
-    ensures { IsTold place failed ran result }
+/// What is reported of what a run came to. A buffer refuses bytes where its device failed, and where there is no memory
+/// for what is to wait: so where a write failed and the device didn't, that is reported.
+pub fn reported(place: Place, ran: Result<(), Fault>, failed: bool) -> Result<(), Fault>
+    ensures { IsReported place failed ran result }
 {
     if is_due(place, &ran) || failed {
         ran
@@ -154,24 +154,24 @@ pub fn told(place: Place, ran: Result<(), Fault>, failed: bool) -> Result<(), Fa
     }
 }
 
-/// Does a job with a buffer before its output, and blames the device only where it failed.
+/// Does a job with a buffer before its output, and reports the device only where it failed.
 ///
 /// # Errors
 ///
 /// Those of [`run_buffered`], but `Memory` where the buffer had none for what was to wait in it.
-pub fn run_blaming<J: Job + Drop, W: Write + Drop>(
+pub fn run_attributing<J: Job + Drop, W: Write + Drop>(
     alloc: Global,
     job: J,
     place: Place,
     sink: Sink<W>,
 ) -> (Result<(), Fault>, J, Sink<W>)
     requires ready { J.ready job }
-    requires place { blames place (Err (Fault.Write place)) ≡ true }
+    requires place { reports_write place (Err (Fault.Write place)) ≡ true }
     requires healthy { sink.over ≡ false }
     ensures stands { Tells place
         (RunsJob place J.says job result.1 sink.bytes result.2.bytes) result.0 }
-    ensures writes { result.2.over ≡ blames place result.0 }
+    ensures writes { result.2.over ≡ reports_write place result.0 }
 {
     let (ran, job, sink) = run_buffered(alloc, job, place, sink);
-    (told(place, ran, sink.has_failed()), job, sink)
+    (reported(place, ran, sink.has_failed()), job, sink)
 }

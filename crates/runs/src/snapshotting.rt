@@ -162,7 +162,7 @@ pub fn run_snapshot<F: Folder, W: Write>(
     ensures fault { IfErr result
         (IsSnapshotRunFault (F.answers folder.now) found.now skip output.old.bytes output.new.bytes) }
     ensures left { LeavesOut (F.answers folder.now) found.now skip whys.new.items }
-    // The output is blamed only where it failed in this call.
+    // The output is reported only where it failed in this call.
     ensures writes { CountsBy output_failures output.old.failures output.new.failures result }
 {
     whys.clear();

@@ -1,12 +1,12 @@
 //! An upgrade, without a buffer before its output and with one.
 
 ghost use Rattle.std.specs.Prelude.{◌≡◌, ◌⊎◌, ◌-◌, ◌<◌, ◌^◌, false, OnOk, IfErr};
-ghost use Rattle.captures.specs.Passes.{BlamesReader};
+ghost use Rattle.captures.specs.Passes.{AttributesReads};
 ghost use Rattle.captures.specs.Upgrades.{Upgrades};
 ghost use Rattle.devices.specs.Devices.{CanFail, CountsBy};
 ghost use Rattle.runs.specs.Failures.{reader_failures, writer_failures};
 ghost use Rattle.faults.specs.declared.fault.Place.TheVariants as Place;
-ghost use Rattle.runs.specs.Ports.{Runs, Tells, blames, is_cut, port};
+ghost use Rattle.runs.specs.Ports.{Runs, Tells, reports_write, is_cut, port};
 ghost use Rattle.runs.specs.Upgrading.{IsUpgradeFault, UpgradeSays};
 
 use crate::rewriting::{Pass, rewrite_into};
@@ -36,7 +36,7 @@ pub fn run_upgrade<R: Read, W: Write>(
     ensures ok { OnOk result (Upgrades to input.old.bytes output.old.bytes output.new.bytes) }
     ensures fault { IfErr result
         (IsUpgradeFault to (port input.old input.new) (port output.old output.new)) }
-    // A device is blamed only where it failed in this call.
+    // A device is reported only where it failed in this call.
     ensures reads { CountsBy reader_failures input.old.failures input.new.failures result }
     ensures writes { CountsBy writer_failures output.old.failures output.new.failures result }
 {
@@ -47,7 +47,7 @@ pub fn run_upgrade<R: Read, W: Write>(
 }
 
 /// Writes the text of a capture or of traffic in a later format, as [`run_upgrade`] does, with a buffer before the
-/// output, and gives input and output back. Each device is blamed only where it failed in this call.
+/// output, and gives input and output back. Each device is reported only where it failed in this call.
 ///
 /// # Errors
 ///
@@ -64,8 +64,8 @@ pub fn upgrade_into<R: Read + Drop, W: Write + Drop>(
     requires writing { output.over ≡ false }
     ensures device { Tells Place.Output (Runs Place.Output (UpgradeSays to (port input result.1))
         output.bytes result.2.bytes) result.0 }
-    ensures reads { BlamesReader reader_failures is_cut input.failures result.1.failures result.0 }
-    ensures writes { result.2.over ≡ blames Place.Output result.0 }
+    ensures reads { AttributesReads reader_failures is_cut input.failures result.1.failures result.0 }
+    ensures writes { result.2.over ≡ reports_write Place.Output result.0 }
 {
     rewrite_into(alloc, Pass::Upgrade, input, output, to)
 }

@@ -59,12 +59,12 @@ in_policy (keys.InPolicy _ key) = keys.InPolicy tables.Policy key
 in_policy key = key
 
 -- what holds at a key, if the document says it
-abbrev pub given_or : Members → Key → Option Data → Result (Option Data) ConfigFault
-given_or document key None = value_at document (in_policy key)
-given_or document key (Some d) = Ok (Some d)
+abbrev pub found_or : Members → Key → Option Data → Result (Option Data) ConfigFault
+found_or document key None = value_at document (in_policy key)
+found_or document key (Some d) = Ok (Some d)
 
-abbrev pub given : Members → Key → Result (Option Data) ConfigFault
-given document key = value_at document key >>= given_or document key
+abbrev pub found_value : Members → Key → Result (Option Data) ConfigFault
+found_value document key = value_at document key >>= found_or document key
 
 -- an integer within its range
 abbrev pub number_of : Key → ℕ → ℕ → Data → Result ℕ ConfigFault
@@ -80,7 +80,7 @@ number_or key default least greatest (Some d) = number_of key least greatest d
 
 abbrev pub number_as : Members → Key → KeyKind → Result ℕ ConfigFault
 number_as document key (Number default least greatest) =
-    given document key >>= number_or key default least greatest
+    found_value document key >>= number_or key default least greatest
 number_as document key other = Err (shape key)
 
 abbrev pub number : Members → Key → Result ℕ ConfigFault
@@ -104,7 +104,7 @@ numbers_or key default (Some (array ds)) = naturals key ds
 numbers_or key default (Some _) = Err (shape key)
 
 abbrev pub numbers_as : Members → Key → KeyKind → Result (List ℕ) ConfigFault
-numbers_as document key (Numbers default) = given document key >>= numbers_or key default
+numbers_as document key (Numbers default) = found_value document key >>= numbers_or key default
 numbers_as document key other = Err (shape key)
 
 abbrev pub numbers : Members → Key → Result (List ℕ) ConfigFault

@@ -66,7 +66,7 @@ impl ConfigFault {
 }
 
 impl ConfigFaultKind {
-    /// Its name, as in a line that tells of the fault.
+    /// Its name, as in a line that reports the fault.
     pub fn name(self) -> &'static str
         ensures name { result.now ≡ kind_name self }
         ensures short { length result.now ≤ 7 }

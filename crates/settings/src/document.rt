@@ -3,7 +3,7 @@
 ghost use Rattle.std.specs.Prelude.{◌≡◌, ◌≤◌, Ok, Err, IfOk, MatchResult, option_map};
 ghost use Rattle.toml.specs.View.{view, array_view, table_view};
 ghost use Rattle.settings.specs.Keys.{IsWithin, all_keys, key_at, row_of};
-ghost use Rattle.settings.specs.Documents.{fits, given, in_policy, misplaced_of, misplaced_among, misplaced_in};
+ghost use Rattle.settings.specs.Documents.{fits, found_value, in_policy, misplaced_of, misplaced_among, misplaced_in};
 ghost use Rattle.settings.specs.Documents.{naturals, number, number_in, number_of, numbers, numbers_in, value_at};
 ghost use Rattle.settings.specs.Documents.{values_fit};
 ghost use Rattle.settings.specs.ConfigFaults.{IsAnswer, Shows};
@@ -105,10 +105,10 @@ fn in_policy(key: Key) -> Key
 /// # Errors
 ///
 /// `Shape` of the key's table, where something else stands in its place.
-fn given<'a>(document: &'a Table, key: Key) -> Result<Option<&'a Value>, ConfigFault>
+fn found_value<'a>(document: &'a Table, key: Key) -> Result<Option<&'a Value>, ConfigFault>
     ensures { MatchResult result
-        (λ found. given (table_view document.now) key ≡ Ok (option_map (λ v. view v.now) found))
-        (λ fault. given (table_view document.now) key ≡ Err fault) }
+        (λ found. found_value (table_view document.now) key ≡ Ok (option_map (λ v. view v.now) found))
+        (λ fault. found_value (table_view document.now) key ≡ Err fault) }
 {
     match value_at(document, key)? {
         Some(value) => Ok(Some(value)),
@@ -128,7 +128,7 @@ fn number(document: &Table, key: Key) -> Result<u64, ConfigFault>
     let Kind::Number(default, least, greatest) = key.row().kind else {
         return Err(ConfigFault::shape(key));
     };
-    let Some(value) = given(document, key)? else {
+    let Some(value) = found_value(document, key)? else {
         return Ok(default);
     };
     number_of(key, least, greatest, value)
@@ -169,7 +169,7 @@ fn numbers(alloc: Global, document: &Table, key: Key) -> Result<Vec<usize>, Conf
     let Kind::Numbers(default) = key.row().kind else {
         return Err(ConfigFault::shape(key));
     };
-    let Some(value) = given(document, key)? else {
+    let Some(value) = found_value(document, key)? else {
         return Ok(Vec::from_slice(alloc, default)?);
     };
     let Some(items) = value.as_array() else {

@@ -16,7 +16,7 @@ use Rattle.reference.proofs.InOrder.{answered}
 use Rattle.reference.specs.Reference.{ArrivedCapture, Terms, replies_of, replies_text, handled, rejected_of, summary_of}
 use Rattle.reference.specs.Outcomes.{outcome_of}
 use Rattle.reference.specs.Explaining.{table}
-use Rattle.reference.specs.Laws.{asked_by, told_in}
+use Rattle.reference.specs.Laws.{asked_by, reported_in}
 use Rattle.reference.specs.declared.summary.Outcome.{Outcome}
 use Rattle.reference.proofs.ByMeaning.{by_meaning}
 use Rattle.reference.proofs.OneAnswer.{same_outcome}
@@ -104,9 +104,9 @@ keeps_replies files terms queries to text slim old new outcome s a =
     let same = alike queries to text slim s a.read b files terms in
     let replies : replies_of files terms a.read.capture.start (handled files terms a.read.arrivals) ≡ replies_of files terms b.own.capture.start (handled files terms b.own.arrivals) =
     sym same.replies ∙ ap (λ t. replies_of files terms t (handled files terms b.own.arrivals)) (sym b.start) in
-    answered files terms (Some slim) old new (told_in (later to s.version) outcome) b.own
+    answered files terms (Some slim) old new (reported_in (later to s.version) outcome) b.own
     (subst (λ rs. Appends old new (replies_text rs)) replies a.written_exactly)
-    (same_outcome (told_in (later to s.version) outcome) (outcome_of b.own.capture.version files terms b.own.arrivals) (sym b.version)
+    (same_outcome (reported_in (later to s.version) outcome) (outcome_of b.own.capture.version files terms b.own.arrivals) (sym b.version)
     (a.listed_exactly ∙ sym same.rejected) (a.figures ∙ sym same.summary))
 
 pub keeps_decisions : SlimKeepsDecisions
@@ -117,7 +117,7 @@ keeps_decisions files terms queries to text slim old new other outcome s a writt
     record {
       read = b.own;
       written = subst (λ (t : List ℕ). Appends old other t) (sym rows.3) written;
-      outcome_is = same_outcome (told_in (later to s.version) outcome) (outcome_of b.own.capture.version files terms b.own.arrivals) (sym b.version)
+      outcome_is = same_outcome (reported_in (later to s.version) outcome) (outcome_of b.own.capture.version files terms b.own.arrivals) (sym b.version)
           (ap (λ (o : Outcome). o.rejected) a.outcome_is ∙ sym same.rejected) (ap (λ (o : Outcome). o.summary) a.outcome_is ∙ sym same.summary);
     }
 

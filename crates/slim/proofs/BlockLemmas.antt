@@ -14,7 +14,7 @@ use Rattle.http_requests.specs.declared.messages.MessageFault.TheVariants as fau
 use Rattle.http_requests.specs.declared.messages.Meaning.{Meaning}
 use Rattle.http_requests.specs.declared.messages.Meaning.TheVariants.{Request}
 use Rattle.http_requests.specs.declared.heads.Verdict.{Verdict}
-use Rattle.http_requests.specs.Reference.{FieldLine, lines_of, values_of, IsSecondOf, IsOnlySecond, IsModifiedSince, IsRequest, IsHead, PartsSay, bad, head_fault, is_get_or_head, is_given, IsVerdict, version_of, is_closing, body_length, is_host_fault, is_length_fault, max_body_bytes}
+use Rattle.http_requests.specs.Reference.{FieldLine, lines_of, values_of, IsSecondOf, IsOnlySecond, IsModifiedSince, IsRequest, IsHead, PartsSay, bad, head_fault, is_get_or_head, is_present, IsVerdict, version_of, is_closing, body_length, is_host_fault, is_length_fault, max_body_bytes}
 use Rattle.std.proofs.Common.{le-leb}
 use Rattle.std.proofs.lemmas.Bool.{cond-true}
 use Rattle.std.proofs.lemmas.Grind.{common_steps}
@@ -291,7 +291,7 @@ block_says = inr (
 -- no head is too long
 pub never_long : (minor : ℕ) (lines : List FieldLine) → head_fault minor lines ≡ Some faults.TooLong → ⊥
 never_long minor lines h =
-    four (is_host_fault minor (values_of (codes "host") lines)) (is_given (values_of (codes "transfer-encoding") lines)) (is_length_fault (values_of (codes "content-length") lines))
+    four (is_host_fault minor (values_of (codes "host") lines)) (is_present (values_of (codes "transfer-encoding") lines)) (is_length_fault (values_of (codes "content-length") lines))
     (nat_lt max_body_bytes (body_length (values_of (codes "content-length") lines))) h
   where
     four : (a b c d : Bool) → cond a (Some faults.Host) (cond b (Some faults.Coding) (cond c (Some faults.Length) (cond d (Some faults.BodySize) None))) ≡ Some faults.TooLong → ⊥
@@ -313,7 +313,7 @@ faulty_says faults.BodySize other = size_says
 
 pub may_show : (method : List ℕ) (lines : List FieldLine) (since : Option ℕ) → IsModifiedSince method lines since → MayShow method since
 may_show method lines None h = tt
-may_show method lines (Some second) h = go (is_get_or_head method) (not (is_given (values_of (codes "if-none-match") lines))) (values_of (codes "if-modified-since") lines) refl h
+may_show method lines (Some second) h = go (is_get_or_head method) (not (is_present (values_of (codes "if-none-match") lines))) (values_of (codes "if-modified-since") lines) refl h
   where
     go : (a b : Bool) (values : List (List ℕ)) → is_get_or_head method ≡ a → MatchBool (a && b) (IsOnlySecond values (Some second)) (Some second ≡ None) → ShowsDate method second
     go true true [] e h = absurd (let z : ⊥ = cc in z)

@@ -12,7 +12,7 @@ use Rattle.http_requests.specs.declared.messages.Meaning.TheVariants.{Request, B
 use Rattle.responses.specs.Reference.{statuses, status_of, reply_text}
 use Rattle.arrivals.specs.Reference.{Arrival}
 use Rattle.arrivals.specs.declared.incoming.Origin.{Origin}
-use Rattle.reference.specs.Reference.{Terms, station_for, tick_in, offer_of, is_unmodified_file, length_given, Handled, offer_at, offers_of, rejects, handled_next, handled_after, handled, reply_of, replies_of, slip_of, given, answers_head, persistence_of, is_head, outcome_answer, rejected_of, status_for, count_of, bypassed_of, breaks_a_rule, summary_of, samples_of, tallies_of}
+use Rattle.reference.specs.Reference.{Terms, station_for, tick_in, offer_of, is_unmodified_file, length_found, Handled, offer_at, offers_of, rejects, handled_next, handled_after, handled, reply_of, replies_of, slip_of, response, answers_head, persistence_of, is_head, outcome_answer, rejected_of, status_for, count_of, bypassed_of, breaks_a_rule, summary_of, samples_of, tallies_of}
 use Rattle.reference.specs.Explaining.{has_pools, first_offered, method_of, row_of}
 use Rattle.slim.specs.declared.queries.Queries.{Queries}
 use Rattle.slim.specs.declared.queries.Queries.TheVariants.{Kept, Dropped}
@@ -29,11 +29,11 @@ asked_same Dropped method target = asks_the_same method target
 
 offer_same : (q : Queries) (files : List File) (t : Terms) (o : Origin) (what : Meaning) → offer_at files t o (kept_what q what) ≡ offer_at files t o what
 offer_same q files t o (Request method target version closing since) =
-    ap₂ (λ a g. offer_of t o (charge_on t.tariff.costs (route_of t.tariff.routes g) (outcome files a) (is_head method) (is_unmodified_file files since (outcome files a)) (length_given files (outcome files a))) ∷ [])
+    ap₂ (λ a g. offer_of t o (charge_on t.tariff.costs (route_of t.tariff.routes g) (outcome files a) (is_head method) (is_unmodified_file files since (outcome files a)) (length_found files (outcome files a))) ∷ [])
     (asked_same q method target) (asked_same q (codes "GET") target)
 offer_same q files t o (Bad fault) = refl
 
-given_same : {X : Type 0} (q : Queries) (files : List File) (t : Terms) (away : Bool) (what : Meaning) → given {X = X} files t away (kept_what q what) ≡ given {X = X} files t away what
+given_same : {X : Type 0} (q : Queries) (files : List File) (t : Terms) (away : Bool) (what : Meaning) → response {X = X} files t away (kept_what q what) ≡ response {X = X} files t away what
 given_same q files t true what = refl
 given_same {X} q files t false (Request method target version closing since) =
     ap (λ a. outcome_answer {X = X} files (is_head method) since (outcome files a)) (asked_same q method target)

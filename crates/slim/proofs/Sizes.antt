@@ -20,7 +20,7 @@ use Rattle.http_requests.specs.declared.messages.MessageFault.TheVariants as fau
 use Rattle.http_requests.specs.declared.messages.Meaning.{Meaning}
 use Rattle.http_requests.specs.declared.messages.Meaning.TheVariants.{Request, Bad}
 use Rattle.http_requests.specs.declared.heads.Verdict.{Verdict}
-use Rattle.http_requests.specs.Reference.{lines_of, values_of, same_text, options_of, has_option, is_given, is_get_or_head, IsOnlySecond, IsModifiedSince, IsVerdict, IsRequest, head_fault, is_host_fault, version_of, is_closing, bad}
+use Rattle.http_requests.specs.Reference.{lines_of, values_of, same_text, options_of, has_option, is_present, is_get_or_head, IsOnlySecond, IsModifiedSince, IsVerdict, IsRequest, head_fault, is_host_fault, version_of, is_closing, bad}
 use Rattle.responses.specs.Reference.{parts_at}
 use Rattle.slim.specs.Blocks.{short_date, last_second, version_text, host_line, connection_line, since_line}
 use Rattle.slim.specs.Blocks.{request_block, faulty_block, block_of}
@@ -283,7 +283,7 @@ since_size method fields (Some second) h =
     let most = below method second shows in
     let here : since_line (Some second) ≡ codes "If-Modified-Since:" ++ short_date second ++ codes "\n" = cond-true (nat_le second last_second) (codes "If-Modified-Since:" ++ short_date second ++ codes "\n") [] (le-leb second 253402300799 most) in
     let size : length (codes "If-Modified-Since:" ++ short_date second ++ codes "\n") ≡ 43 = (add (add (own (codes "If-Modified-Since:")) (record { is = short_size second most })) (own (codes "\n"))).is in
-    let long = go (is_get_or_head method) (not (is_given (values_of (codes "if-none-match") (lines_of fields)))) (values_of (codes "if-modified-since") (lines_of fields)) refl h in
+    let long = go (is_get_or_head method) (not (is_present (values_of (codes "if-none-match") (lines_of fields)))) (values_of (codes "if-modified-since") (lines_of fields)) refl h in
     let whole = ap length here in
     omega (arith, size, long, whole)
   where

@@ -15,7 +15,7 @@ use Rattle.http_requests.specs.declared.messages.Message.{Message}
 use Rattle.http_requests.specs.declared.messages.Meaning.{Meaning}
 use Rattle.http_requests.specs.Cutting.{EndBetween}
 use Rattle.arrivals.specs.Reference.{Arrival, AreArrivals, text_of}
-use Rattle.arrivals.specs.Connections.{HasRead, HasRoom, HaveNumbers, IsNumber, ReadMore, arrivals_with, connection_at, text_now, messages_now}
+use Rattle.arrivals.specs.Connections.{HasRead, HasCapacity, HaveNumbers, IsNumber, ReadMore, arrivals_with, connection_at, text_now, messages_now}
 use Rattle.arrivals.specs.Batches.{Stand, origin_now}
 use Rattle.arrivals.specs.declared.incoming.Origin.{Origin}
 use Rattle.arrivals.specs.declared.connections.Connection.{Connection}
@@ -157,11 +157,11 @@ pub err_prefix : {T E : Type 0} (Q : E → Type 0) (old new : Option (List ℕ))
 err_prefix Q old new text (Ok x) h part = absurd h
 err_prefix Q old new text (Err e) h part = part
 
-pub err_count : {T E : Type 0} (blamed : E → ℕ) (old new : ℕ) (f : E) (r : Result T E) → IsErrAnd r (λ g. g ≡ f) → new ≡ old + blamed f → CountsBy blamed old new r
-err_count blamed old new f (Ok x) h is = absurd h
-err_count blamed old new f (Err e) h is = is ∙ ap (λ g. old + blamed g) (sym h)
+pub err_count : {T E : Type 0} (attributed : E → ℕ) (old new : ℕ) (f : E) (r : Result T E) → IsErrAnd r (λ g. g ≡ f) → new ≡ old + attributed f → CountsBy attributed old new r
+err_count attributed old new f (Ok x) h is = absurd h
+err_count attributed old new f (Err e) h is = is ∙ ap (λ g. old + attributed g) (sym h)
 
--- ---- the room of a record
+-- ---- the capacity for a record
 
 text_below : (c : ℕ) (records : List Record) → length (text_of c records) ≤ sizes_of records
 text_below c [] = omega arith
@@ -196,10 +196,10 @@ now_below : (c : ℕ) (records : List Record) → length (text_now c records) �
 now_below c records = omega (arith, text_below (connection_now c records) (used_once records), sizes_once records)
 
 pub has_room : (queries : Queries) (records : List Record) (arrivals : List Arrival) (connections : List Connection) (c n : ℕ) → IsNumber c → Stands queries records arrivals connections
-    → sizes_of records + n ≤ longest_text → HasRoom (connection_at connections c) n
-has_room queries records arrivals connections c n low stands room =
+    → sizes_of records + n ≤ longest_text → HasCapacity (connection_at connections c) n
+has_room queries records arrivals connections c n low stands capacity =
     let below = now_below c records in
-    room_of (connection_at connections c) (text_now c records) (messages_now c records arrivals) n (stands.reads.each c low) (omega (arith, below, room))
+    room_of (connection_at connections c) (text_now c records) (messages_now c records arrivals) n (stands.reads.each c low) (omega (arith, below, capacity))
 
 -- ---- what is written of one more record
 

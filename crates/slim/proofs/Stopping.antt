@@ -80,21 +80,21 @@ pub count_more : (count n : ℕ) (records : List Record) (r : Record) → count 
 count_more count n records r le few =
     let s = sum_by_push size_of records r in let l = length-append records (r ∷ []) in omega (arith, le, few, s, l)
 
--- ---- the room for it
+-- ---- the capacity for it
 
 length_more : (queries : Queries) (w : Version) (start : ℕ) (records : List Record) (arrivals : List Arrival) (r : Record) (more : List Record) (connections : List Connection) (s : StandsMore queries records arrivals r more connections)
     → length (slim_before_stop queries w start (records ++ r ∷ []) (arrivals ++ s.came)) ≡ length (slim_before_stop queries w start records arrivals) + length (flat_map record_text more)
 length_more queries w start records arrivals r more connections s =
     ap length (as_more queries w start records arrivals r more connections s) ∙ length-append (slim_before_stop queries w start records arrivals) (flat_map record_text more)
 
-pub first_room : (queries : Queries) (w : Version) (start room : ℕ) → length (first_line w start ++ line_feed ∷ []) + room ≡ (format_of w).max_text_bytes
-    → length (slim_before_stop queries w start [] []) + room ≡ (format_of w).max_text_bytes
-first_room queries w start room is = ap (λ l. length l + room) (as_first queries w start) ∙ is
+pub first_room : (queries : Queries) (w : Version) (start capacity : ℕ) → length (first_line w start ++ line_feed ∷ []) + capacity ≡ (format_of w).max_text_bytes
+    → length (slim_before_stop queries w start [] []) + capacity ≡ (format_of w).max_text_bytes
+first_room queries w start capacity is = ap (λ l. length l + capacity) (as_first queries w start) ∙ is
 
-pub more_room : (queries : Queries) (w : Version) (start room left : ℕ) (records : List Record) (arrivals : List Arrival) (r : Record) (more : List Record) (connections : List Connection)
-    → (s : StandsMore queries records arrivals r more connections) → length (slim_before_stop queries w start records arrivals) + room ≡ (format_of w).max_text_bytes → length (flat_map record_text more) + left ≡ room
+pub more_room : (queries : Queries) (w : Version) (start capacity left : ℕ) (records : List Record) (arrivals : List Arrival) (r : Record) (more : List Record) (connections : List Connection)
+    → (s : StandsMore queries records arrivals r more connections) → length (slim_before_stop queries w start records arrivals) + capacity ≡ (format_of w).max_text_bytes → length (flat_map record_text more) + left ≡ capacity
     → length (slim_before_stop queries w start (records ++ r ∷ []) (arrivals ++ s.came)) + left ≡ (format_of w).max_text_bytes
-more_room queries w start room left records arrivals r more connections s is fits =
+more_room queries w start capacity left records arrivals r more connections s is fits =
     let len = length_more queries w start records arrivals r more connections s in
     omega (arith, is, fits, len)
 
@@ -143,13 +143,13 @@ pub slim_own : (queries : Queries) (to : Version) (input ahead old new : Option 
 slim_own queries to input ahead old new f own cut = inl (leaves_part input ahead _ _ _ _ f own cut)
 
 -- there was no room for the slim records of one more record
-pub slim_over : (queries : Queries) (to : Version) (v : Version) (text now after ahead old new : Option (List ℕ)) (start at room count : ℕ) (records : List Record) (arrivals : List Arrival) (r : Record) (more : List Record)
+pub slim_over : (queries : Queries) (to : Version) (v : Version) (text now after ahead old new : Option (List ℕ)) (start at capacity count : ℕ) (records : List Record) (arrivals : List Arrival) (r : Record) (more : List Record)
     (connections : List Connection) (p q : Progress) → ReaderAfter v text start records p now → ReaderAfter v text start (records ++ r ∷ []) q after → AreArrivals (used_once records) arrivals
     → StandsMore queries records arrivals r more connections → Appends old new (slim_before_stop queries (later to v) start records arrivals)
     → count ≡ length (slimmed queries records arrivals) → count ≤ sizes_of records + length records → at ≡ length records + 1
-    → length (slim_before_stop queries (later to v) start records arrivals) + room ≡ (format_of (later to v)).max_text_bytes → room < length (flat_map record_text more)
+    → length (slim_before_stop queries (later to v) start records arrivals) + capacity ≡ (format_of (later to v)).max_text_bytes → capacity < length (flat_map record_text more)
     → Leaves queries to text ahead old new (Capture (record { at = at; kind = kinds.TooLarge }))
-slim_over queries to v text now after ahead old new start at room count records arrivals r more connections p q fits fits_more arrived s written is few at_is room_is over =
+slim_over queries to v text now after ahead old new start at capacity count records arrivals r more connections p q fits fits_more arrived s written is few at_is room_is over =
     let all : List Record = records ++ r ∷ [] in
     let came : List Arrival = arrivals ++ s.came in
     let len = length_more queries (later to v) start records arrivals r more connections s in
@@ -198,9 +198,9 @@ slim_part_end queries to (Err f) v text ahead old mid new start n records arriva
 grown_end : (queries : Queries) (to : Version) (v : Version) (start n : ℕ) (records : List Record) (arrivals : List Arrival) → n ≡ length (slimmed queries records arrivals) → n ≤ sizes_of records + length records
     → sizes_of records + length records ≤ longest_text → IsCapture v start records → Kept (slimmed queries records arrivals) records (kept_arrivals queries arrivals)
     → length (slim_text queries (later to v) start records arrivals) ≤ most_growth * length (capture_text v start records)
-grown_end queries to v start n records arrivals is few room rules kept =
+grown_end queries to v start n records arrivals is few capacity rules kept =
     let ruled = slim_rules v start records (kept_arrivals queries arrivals) kept.short rules in
-    grows v (later to v) start records (slimmed queries records arrivals) rules.in_time (rules_widen to v start (slimmed queries records arrivals) ruled.0).each ruled.1 (omega (arith, is, few)) (omega (arith, is, few, room))
+    grows v (later to v) start records (slimmed queries records arrivals) rules.in_time (rules_widen to v start (slimmed queries records arrivals) ruled.0).each ruled.1 (omega (arith, is, few)) (omega (arith, is, few, capacity))
 
 length_end : (queries : Queries) (w : Version) (start n : ℕ) (records : List Record) (arrivals : List Arrival) → n ≡ length (slimmed queries records arrivals)
     → length (slim_text queries w start records arrivals) ≡ length (slim_before_stop queries w start records arrivals) + length ((codes "stop " ++ decimal n) ++ line_feed ∷ [])
@@ -209,13 +209,13 @@ length_end queries w start n records arrivals is =
     ∙ ap (λ t. length (slim_before_stop queries w start records arrivals) + length t) (sym (counted n (slimmed queries records arrivals) is))
 
 -- there was no room for the last line
-pub slim_over_end : (queries : Queries) (to : Version) (v : Version) (text now ahead old new : Option (List ℕ)) (start n at room : ℕ) (records : List Record) (arrivals : List Arrival) (p : Progress) → ReaderAfter v text start records p now
+pub slim_over_end : (queries : Queries) (to : Version) (v : Version) (text now ahead old new : Option (List ℕ)) (start n at capacity : ℕ) (records : List Record) (arrivals : List Arrival) (p : Progress) → ReaderAfter v text start records p now
     → n ≡ length (slimmed queries records arrivals) → n ≤ sizes_of records + length records → sizes_of records + length records ≤ longest_text
     → AreArrivals (used_once records) arrivals → Kept (slimmed queries records arrivals) records (kept_arrivals queries arrivals)
     → Appends old new (slim_before_stop queries (later to v) start records arrivals) → WhereKnown text (λ bytes. IsCaptureText v bytes start records) → at ≡ length records + 1
-    → length (slim_before_stop queries (later to v) start records arrivals) + room ≡ (format_of (later to v)).max_text_bytes → room < length ((codes "stop " ++ decimal n) ++ line_feed ∷ [])
+    → length (slim_before_stop queries (later to v) start records arrivals) + capacity ≡ (format_of (later to v)).max_text_bytes → capacity < length ((codes "stop " ++ decimal n) ++ line_feed ∷ [])
     → Leaves queries to text ahead old new (Capture (record { at = at; kind = kinds.TooLarge }))
-slim_over_end queries to v text now ahead old new start n at room records arrivals p fits is few most arrived kept written whole at_is room_is over =
+slim_over_end queries to v text now ahead old new start n at capacity records arrivals p fits is few most arrived kept written whole at_is room_is over =
     let len = length_end queries (later to v) start n records arrivals is in
     inr (
       record { at = at; kind = kinds.TooLarge },
@@ -234,13 +234,13 @@ slim_over_end queries to v text now ahead old new start n at room records arriva
       },
     )
 
-pub slim_ok_end : (queries : Queries) (to : Version) (r : Result Unit PassFault) (v : Version) (text old mid new : Option (List ℕ)) (start n room : ℕ) (records : List Record) (arrivals : List Arrival)
+pub slim_ok_end : (queries : Queries) (to : Version) (r : Result Unit PassFault) (v : Version) (text old mid new : Option (List ℕ)) (start n capacity : ℕ) (records : List Record) (arrivals : List Arrival)
     → n ≡ length (slimmed queries records arrivals) → n ≤ sizes_of records + length records → sizes_of records + length records ≤ longest_text
     → IsCapture v start records → AreArrivals (used_once records) arrivals → Kept (slimmed queries records arrivals) records (kept_arrivals queries arrivals)
     → Appends old mid (slim_before_stop queries (later to v) start records arrivals) → WhereKnown text (λ bytes. IsCaptureText v bytes start records)
-    → length (slim_before_stop queries (later to v) start records arrivals) + room ≡ (format_of (later to v)).max_text_bytes → length ((codes "stop " ++ decimal n) ++ line_feed ∷ []) ≤ room
+    → length (slim_before_stop queries (later to v) start records arrivals) + capacity ≡ (format_of (later to v)).max_text_bytes → length ((codes "stop " ++ decimal n) ++ line_feed ∷ []) ≤ capacity
     → WritesPrefix mid new r ((codes "stop " ++ decimal n) ++ line_feed ∷ []) → OnOk r (Slims queries to text old new)
-slim_ok_end queries to (Ok x) v text old mid new start n room records arrivals is few most rules arrived kept before c room_is fits h =
+slim_ok_end queries to (Ok x) v text old mid new start n capacity records arrivals is few most rules arrived kept before c room_is fits h =
     let len = length_end queries (later to v) start n records arrivals is in
     record {
       capture = record { version = v; start = start; records = records; rules = rules; text = c };
@@ -260,7 +260,7 @@ slim_ok_end queries to (Ok x) v text old mid new start n room records arrivals i
       size = grown_end queries to v start n records arrivals is few most rules kept;
       written = appends_then old mid new _ _ before (subst (λ (w : List ℕ). Appends mid new w) (counted n (slimmed queries records arrivals) is) h);
     }
-slim_ok_end queries to (Err f) v text old mid new start n room records arrivals is few most rules arrived kept before c room_is fits h = tt
+slim_ok_end queries to (Err f) v text old mid new start n capacity records arrivals is few most rules arrived kept before c room_is fits h = tt
 
 -- ---- the record that came
 
@@ -275,13 +275,13 @@ within_longest Two = omega arith
 within_longest Traffic = omega arith
 
 pub all_room : (v : Version) (text now : Option (List ℕ)) (start : ℕ) (records : List Record) (p : Progress) → ReaderAfter v text start records p now → sizes_of records + length records ≤ longest_text
-all_room v text now start records p fits = let h = fits.room in omega (arith, h, within_longest v)
+all_room v text now start records p fits = let h = fits.capacity in omega (arith, h, within_longest v)
 
-pub sizes_left : (v : Version) (text now : Option (List ℕ)) (start room : ℕ) (records : List Record) (p : Progress) (r : Record) → ReaderAfter v text start records p now
-    → size_of r + 1 + room ≡ p.room → sizes_of records + size_of r ≤ longest_text
-sizes_left v text now start room records p r fits e = let h = fits.room in omega (arith, h, e, within_longest v)
+pub sizes_left : (v : Version) (text now : Option (List ℕ)) (start capacity : ℕ) (records : List Record) (p : Progress) (r : Record) → ReaderAfter v text start records p now
+    → size_of r + 1 + capacity ≡ p.capacity → sizes_of records + size_of r ≤ longest_text
+sizes_left v text now start capacity records p r fits e = let h = fits.capacity in omega (arith, h, e, within_longest v)
 
 -- the count stays small
-pub count_small : (v : Version) (text now : Option (List ℕ)) (start count n room : ℕ) (records : List Record) (p : Progress) (r : Record) → ReaderAfter v text start records p now
-    → size_of r + 1 + room ≡ p.room → count ≤ sizes_of records + length records → n ≤ size_of r + 1 → count + n ≤ longest_text
-count_small v text now start count n room records p r fits e le few = let h = fits.room in omega (arith, h, e, le, few, within_longest v)
+pub count_small : (v : Version) (text now : Option (List ℕ)) (start count n capacity : ℕ) (records : List Record) (p : Progress) (r : Record) → ReaderAfter v text start records p now
+    → size_of r + 1 + capacity ≡ p.capacity → count ≤ sizes_of records + length records → n ≤ size_of r + 1 → count + n ≤ longest_text
+count_small v text now start count n capacity records p r fits e le few = let h = fits.capacity in omega (arith, h, e, le, few, within_longest v)

@@ -6,7 +6,7 @@ use Rattle.paths.specs.Reference.{asked, question_mark}
 use Rattle.decision_table.specs.declared.row.Row.{Row}
 use Rattle.reference.specs.Reference.{Terms, Answers, handled, replies_of, rejected_of, summary_of}
 use Rattle.reference.specs.Explaining.{Explains, row_of, method_of, table}
-use Rattle.reference.specs.Laws.{told_in}
+use Rattle.reference.specs.Laws.{reported_in}
 use Rattle.reference.specs.declared.summary.Outcome.{Outcome}
 use Rattle.captures.specs.declared.version.Version.{Version}
 use Rattle.captures.specs.declared.record.Record.{Record}
@@ -91,17 +91,17 @@ SlimKeepsReplies = (files : List File) (terms : Terms) (queries : Queries) (to :
     (old new : Option (List ℕ))
     (outcome : Outcome) (s : IsSlim queries to text slim)
     → Answers files terms (Some text) old new outcome
-    → Answers files terms (Some slim) old new (told_in (later to s.version) outcome)
+    → Answers files terms (Some slim) old new (reported_in (later to s.version) outcome)
 
 abbrev pub SlimKeepsRows : Type 0
 SlimKeepsRows = (files : List File) (terms : Terms) (to : Version) (text slim : List ℕ) (old new : Option (List ℕ))
     (outcome : Outcome) (s : IsSlim Kept to text slim)
     → Explains files terms (Some text) old new outcome
-    → Explains files terms (Some slim) old new (told_in (later to s.version) outcome)
+    → Explains files terms (Some slim) old new (reported_in (later to s.version) outcome)
 
 abbrev pub SlimKeepsDecisions : Type 0
 SlimKeepsDecisions = (files : List File) (terms : Terms) (queries : Queries) (to : Version) (text slim : List ℕ)
     (old new slim_new : Option (List ℕ)) (outcome : Outcome) (s : IsSlim queries to text slim)
     → Explains files terms (Some text) old new outcome
     → Appends old slim_new (table files terms (kept_arrivals queries s.arrivals))
-    → Explains files terms (Some slim) old slim_new (told_in (later to s.version) outcome)
+    → Explains files terms (Some slim) old slim_new (reported_in (later to s.version) outcome)

@@ -143,7 +143,7 @@ pub record IsTooLarge (queries : Queries) (to : Version) (input old new : Option
 
 -- What stands where the pass stopped, by its fault: after a fault of the capture the first line and the slim records of
 -- the whole records before it, or nothing where the fault is in the first line; else a part. No message is too many.
--- Or the slim text is too large, which is told as the capture's fault would be.
+-- Or the slim text is too large, which is reported as the capture's fault would be.
 abbrev pub Leaves : Queries → Version → (input ahead old new : Option (List ℕ)) → PassFault → Type 0
 Leaves queries to input ahead old new f = LeavesBy input ahead (new ≡ old)
     (λ read. WritesRead queries to old new read) (λ number. ⊥) (IsCutShort queries to input old new) f

@@ -2,10 +2,10 @@
 #![tactic(auto)]
 
 mod blocks;
+mod capacities;
 mod dates;
 mod laws;
 mod queries;
-mod rooms;
 mod slimming;
 
 pub use blocks::{canonical_block, kept_block};

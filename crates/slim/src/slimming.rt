@@ -17,8 +17,8 @@ ghost use Rattle.slim.specs.Slims.{Leaves, Slims, slim_record};
 ghost use Rattle.slim.specs.Steps.{whats_kept, Stands, StandsMore};
 
 use crate::blocks::kept_block;
+use crate::capacities::{capacity_after, capacity_after_first, last_line_size};
 use crate::queries::Queries;
-use crate::rooms::{last_line_size, room_after, room_after_first};
 use arrivals::Connections;
 use captures::{
     CaptureFault, CaptureFaultKind, CaptureReader, PassFault, Record, Version, write_first_line,
@@ -56,7 +56,7 @@ fn slim_record(
     messages: &mut Vec<Message>,
     queries: Queries,
 ) -> Result<Vec<Record>, AllocError>
-    requires room { (records : List ARecord) × (arrivals : List Arrival)
+    requires capacity { (records : List ARecord) × (arrivals : List Arrival)
         × Stands queries records arrivals connections.old
         × (sizes_of records + size_of next.now ≤ longest_text) }
     requires number { IsNumber (connection_of next.now) }
@@ -140,7 +140,7 @@ pub fn slim<R: Read, W: Write>(
     // stand; else a prefix of what was due.
     ensures fault { IfErr result
         (Leaves queries to reader.old.bytes reader.new.bytes writer.old.bytes writer.new.bytes) }
-    // A device is blamed only where it failed in this call.
+    // A device is reported only where it failed in this call.
     ensures reads { CountsBy reader_failures reader.old.failures reader.new.failures result }
     ensures writes { CountsBy writer_failures writer.old.failures writer.new.failures result }
 {
@@ -150,7 +150,7 @@ pub fn slim<R: Read, W: Write>(
     };
     let version = to.later(capture.version());
     write_first_line(alloc, writer, version, capture.start())?;
-    let mut room = room_after_first(version, capture.start());
+    let mut capacity = capacity_after_first(version, capture.start());
     let mut connections = Connections::new(alloc);
     let mut messages = Vec::new(alloc);
     let mut at = 1;
@@ -162,15 +162,15 @@ pub fn slim<R: Read, W: Write>(
             Err(fault) => return Err(PassFault::from(fault)),
         };
         let more = slim_record(alloc, &next, &mut connections, &mut messages, queries)?;
-        let Some(left) = room_after(room, &more) else {
+        let Some(left) = capacity_after(capacity, &more) else {
             return Err(too_large(at));
         };
         write_records(alloc, writer, &more)?;
-        room = left;
+        capacity = left;
         at += 1;
         count += more.len();
     }
-    if room < last_line_size(count) {
+    if capacity < last_line_size(count) {
         return Err(too_large(at));
     }
     write_last_line(alloc, writer, count)

@@ -69,7 +69,7 @@ limit a b d n short is = elim (cases_lt max_text_bytes n) [
 size_is : (files : List File) (f : File) (s : FilesSoFar) → IsSoFar files s → nat_le max_files (length files) ≡ false
     → nat_lt (max_text_bytes - (5 + length (decimal (s.count + 1)))) (more s.size (length (file_text f))) ≡ nat_lt max_text_bytes (length (snapshot_text (files ++ f ∷ [])))
 size_is files f s kept few =
-    let room : length files < max_files = grind (arith, nat_tests) in
+    let capacity : length files < max_files = grind (arith, nat_tests) in
     let short : length (decimal (length files + 1)) ≤ 5 = length-decimal-le 5 (length files + 1) (omega arith) (omega arith) (omega arith) in
     ap (λ (n : ℕ). nat_lt (max_text_bytes - (5 + length (decimal (n + 1)))) (more s.size (length (file_text f)))) kept.count
     ∙ (ap (λ (n : ℕ). nat_lt (max_text_bytes - (5 + length (decimal (length files + 1)))) (more n (length (file_text f)))) kept.size
@@ -113,10 +113,10 @@ none_broken files f h =
     let named = good f.name name.0 in
     let in_time : f.mtime ≤ max_time = let t = time.0 in grind (arith, nat_tests) in
     let small : length f.bytes ≤ max_file_bytes = let t = bytes.0 in grind (arith, nat_tests) in
-    let room : length files < max_files = let t = few.0 in grind (arith, nat_tests) in
+    let capacity : length files < max_files = let t = few.0 in grind (arith, nat_tests) in
     let within : length (snapshot_text (files ++ f ∷ [])) ≤ max_text_bytes = let t = text.0 in grind (arith, nat_tests) in
     let is : IsFile f = record { mtime = in_time; some = named.0; short = named.1; name = named.2; bytes = small } in
-    record { follows = record { room = room; file = is; order = un_not _ order.0; apart = apart.0 }; size = within }
+    record { follows = record { capacity = capacity; file = is; order = un_not _ order.0; apart = apart.0 }; size = within }
 
 negated : (b : Bool) → b ≡ true → not b ≡ false
 negated true h = refl
@@ -134,7 +134,7 @@ breaks_none files f h =
     let is = h.follows.file in
     let time : nat_lt max_time f.mtime ≡ false = let t = is.mtime in grind (arith, nat_tests) in
     let bytes : nat_lt max_file_bytes (length f.bytes) ≡ false = let t = is.bytes in grind (arith, nat_tests) in
-    let few : nat_le max_files (length files) ≡ false = let t = h.follows.room in grind (arith, nat_tests) in
+    let few : nat_le max_files (length files) ≡ false = let t = h.follows.capacity in grind (arith, nat_tests) in
     let text : nat_lt max_text_bytes (length (snapshot_text (files ++ f ∷ []))) ≡ false = let t = h.size in grind (arith, nat_tests) in
     pass _ _ _ time ∙ (pass _ _ _ bytes ∙ (pass _ _ _ few ∙ (pass _ _ _ (good_again f.name is.some is.short is.name)
     ∙ (pass _ _ _ (negated _ h.follows.order) ∙ (pass _ _ _ h.follows.apart ∙ pass _ _ _ text)))))

@@ -10,7 +10,7 @@ use Rattle.snapshots.specs.declared.so_far.FilesSoFar.{FilesSoFar}
 use Rattle.snapshots.specs.Keeping.{IsSoFar}
 
 -- A writer has taken these files, and no others: they keep the rules, and their text, up to the last line, was written
--- after what stood before.
+-- after what was there before.
 pub record Took (files : List File) (before now : Option (List ℕ)) (s : FilesSoFar) : Type 0 where
   pub rules : IsSnapshot files
   pub size : length (snapshot_text files) ≤ max_text_bytes

@@ -1,10 +1,10 @@
 /*
  * Waiting and waking of helper threads: a model of crates/stage_graph/src/helpers.rt (`help`, `lay`, `moved`, `carry`,
- * `give`, `back`, `free`, `close`), helpers/desk.rt and helpers/sections.rt, with the rules of floor/causes.rt and
+ * `give`, `back`, `free`, `close`), helpers/scheduler.rt and helpers/sections.rt, with the rules of floor/causes.rt and
  * floor/events.rt as far as waiting depends on them (chunks are only counted). `run_floor` is one floor, and as many
  * threads as workers.
  *
- * One step is one of: a section (all that a thread does under the desk's lock in one go, its sleep included), one
+ * One step is one of: a section (all that a thread does under the scheduler's lock in one go, its sleep included), one
  * notify_one, one notify_all, one unasked wake. All of them interleave freely. No section blocks but by its sleep, so
  * that the mutex is an atomic step. A hang is an invalid end state.
  *
@@ -67,7 +67,7 @@
 #define WORKERS(s) ((s)==0 -> W0 : ((s)==1 -> W1 : W2))
 #define CAP(s) ((s)==0 -> C0 : ((s)==1 -> C1 : C2))
 
-/* The floor on the desk. */
+/* The floor on the scheduler. */
 bool open;
 byte backlog;
 byte queue[S];
@@ -82,7 +82,7 @@ byte done;
 byte returned;
 bool stopped;
 
-/* The desk. */
+/* The scheduler. */
 bool closed;
 byte idle;
 byte crowded;
@@ -151,7 +151,7 @@ inline feed() {
   od
 }
 
-/* Whether a worker of stage s may take, as the floor has it, and as the desk has it. */
+/* Whether a worker of stage s may take, as the floor has it, and as the scheduler has it. */
 #define MAY_TAKE(s) (open && !stopped && queue[s] > 0 && slots[s] < WORKERS(s))
 #ifdef HOLDS
 #define MAY(s) (open && !stopped && queue[s] > 0 && slots[s] + inside[s] < WORKERS(s))
@@ -159,7 +159,7 @@ inline feed() {
 #define MAY(s) MAY_TAKE(s)
 #endif
 
-/* desk.rt: pick, calls_after. Leaves in mine the stage + 1 of the chunk, or 0. */
+/* scheduler.rt: pick, calls_after. Leaves in mine the stage + 1 of the chunk, or 0. */
 inline pick(mine, call) {
   feed();
   mine = 0;
@@ -231,7 +231,7 @@ inline pick(mine, call) {
 #define IS_OVER (!open || (HELD == 0 && INSIDE == 0 && (stopped || done == N)))
 #endif
 
-/* desk.rt: calls_at_end, where it doesn't. */
+/* scheduler.rt: calls_at_end, where it doesn't. */
 inline at_end(call) {
   call = 0;
 #ifndef M_BACK_SILENT
@@ -242,7 +242,7 @@ inline at_end(call) {
 #endif
 }
 
-/* desk.rt: calls_at_end, where the gate may hold the chunk next. */
+/* scheduler.rt: calls_at_end, where the gate may hold the chunk next. */
 inline at_give(call) {
   call = 0;
 #ifdef HOLDS

@@ -23,9 +23,9 @@ posts_more ws k h =
     ∙ ap (λ j. posts_of 0 (take k ws) ++ replicate (get_or ws k 0) j) (let e : length (take k ws) ≡ k = length-take-le k ws (omega arith) in omega arith))
 
 -- a worker's stage is one of those that have workers
-seat_within : (a : ℕ) (ws : List ℕ) (w : ℕ) → w < length (posts_of a ws) → (a ≤ get_or (posts_of a ws) w 0) × (get_or (posts_of a ws) w 0 < a + length ws)
-seat_within a [] w h = absurd (omega arith)
-seat_within a (x ∷ xs) w h =
+slot_within : (a : ℕ) (ws : List ℕ) (w : ℕ) → w < length (posts_of a ws) → (a ≤ get_or (posts_of a ws) w 0) × (get_or (posts_of a ws) w 0 < a + length ws)
+slot_within a [] w h = absurd (omega arith)
+slot_within a (x ∷ xs) w h =
     by_bool (λ b. (a ≤ get_or (replicate x a ++ posts_of (suc a) xs) w 0) × (get_or (replicate x a ++ posts_of (suc a) xs) w 0 < a + suc (length xs))) (nat_lt w x)
     (λ t. let i : w < length (replicate x a) = omega (arith, ltb-true w x t, length-replicate x a) in
     let e : get_or (replicate x a ++ posts_of (suc a) xs) w 0 ≡ a = get_or_append_left (replicate x a) (posts_of (suc a) xs) 0 w i ∙ get_or-replicate x w a 0 (ltb-true w x t) in
@@ -35,18 +35,18 @@ seat_within a (x ∷ xs) w h =
     let in-rest : j < length (posts_of (suc a) xs) = omega (arith, at, length-append (replicate x a) (posts_of (suc a) xs), h) in
     let e : get_or (replicate x a ++ posts_of (suc a) xs) w 0 ≡ get_or (posts_of (suc a) xs) j 0 =
     ap (λ i. get_or (replicate x a ++ posts_of (suc a) xs) i 0) (sym at) ∙ get_or-append-add (replicate x a) (posts_of (suc a) xs) j 0 in
-    let t = seat_within (suc a) xs j in-rest in
+    let t = slot_within (suc a) xs j in-rest in
     (omega (arith, e, t.0), omega (arith, e, t.1)))
 
 -- each stage with workers has one
-seat_found : (a : ℕ) (ws : List ℕ) (j : ℕ) → are_within 16 ws ≡ true → j < length ws → (w : ℕ) × (w < length (posts_of a ws)) × (get_or (posts_of a ws) w 0 ≡ a + j)
-seat_found a [] j all h = absurd (omega arith)
-seat_found a (x ∷ xs) zero all h =
+slot_found : (a : ℕ) (ws : List ℕ) (j : ℕ) → are_within 16 ws ≡ true → j < length ws → (w : ℕ) × (w < length (posts_of a ws)) × (get_or (posts_of a ws) w 0 ≡ a + j)
+slot_found a [] j all h = absurd (omega arith)
+slot_found a (x ∷ xs) zero all h =
     let some : 0 < x = ltb-true 0 x (and_left (nat_lt 0 x) (nat_le x 16) (and_left (nat_lt 0 x && nat_le x 16) (are_within 16 xs) all)) in
     let i : 0 < length (replicate x a) = omega (arith, length-replicate x a) in
     (0, omega (arith, i, length-append (replicate x a) (posts_of (suc a) xs)), get_or_append_left (replicate x a) (posts_of (suc a) xs) 0 0 i ∙ (get_or-replicate x 0 a 0 some ∙ omega arith))
-seat_found a (x ∷ xs) (suc j) all h =
-    let t = seat_found (suc a) xs j (and_right (nat_lt 0 x && nat_le x 16) (are_within 16 xs) all) (omega arith) in
+slot_found a (x ∷ xs) (suc j) all h =
+    let t = slot_found (suc a) xs j (and_right (nat_lt 0 x && nat_le x 16) (are_within 16 xs) all) (omega arith) in
     let len = length-replicate x a in (
       length (replicate x a) + t.0,
       omega (arith, t.1, length-append (replicate x a) (posts_of (suc a) xs)),
@@ -94,8 +94,8 @@ plan_from cuts worker_counts capacities h =
     record {
       some = not_nil cuts a.0;
       capacities = eqb-true (length capacities) (length cuts) (and_left _ _ d.0);
-      posted = λ w i. let t = seat_within 0 worker_counts w i in omega (arith, t.1, worker_count);
-      manned = λ k i. let t = seat_found 0 worker_counts k (and_right _ _ c.0) (omega (arith, worker_count)) in (t.0, t.1, t.2 ∙ omega arith);
+      posted = λ w i. let t = slot_within 0 worker_counts w i in omega (arith, t.1, worker_count);
+      manned = λ k i. let t = slot_found 0 worker_counts k (and_right _ _ c.0) (omega (arith, worker_count)) in (t.0, t.1, t.2 ∙ omega arith);
       bounded = λ k i. let e : k + (length cuts - 1 - k) ≡ length cuts - 1 = omega arith in let u = rises_to cuts k (length cuts - 1 - k) b.0 (omega arith) in rw e at u;
       rising = λ k i. rising_at p b.0 (not_nil cuts a.0) k i;
     }

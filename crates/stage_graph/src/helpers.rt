@@ -4,22 +4,22 @@ ghost use Rattle.std.specs.Prelude.{◌≡◌, ◌<◌, ◌≤◌, IfOk, IfErr};
 ghost use denote.Param.Send.{IsSync};
 
 mod chunk;
-mod desk;
 mod passage;
+mod scheduler;
 mod sections;
 
 use crate::floor::{Held, Picked};
 use crate::{Chain, Gate, Named, Span};
 pub use chunk::Travel;
-use desk::{Calls, Desk};
 pub use passage::{Arrived, Before};
+use scheduler::{Calls, Scheduler};
 pub(crate) use sections::end;
 use std::alloc::{AllocError, Global};
 use std::sync::{Condvar, Mutex, MutexGuard, Wait};
 use std::thread::{Threads, join, join_mut};
 
 /// Threads that run floors, one after another, by the same chain and with the same gate: the calling one, and those
-/// that [`beside`] starts, which sleep at the desk's lock while there is no work.
+/// that [`beside`] starts, which sleep at the scheduler's lock while there is no work.
 ///
 /// Who sleeps where: a helper that found no work at `called`; a thread with a chunk that found the next queue full at
 /// `not_full`; the calling thread, which found no work on a floor that hasn't ended, at `over`. A thread that is free
@@ -38,13 +38,13 @@ pub struct Helpers<'a, C: Chain, G, R> {
     alloc: Global,
     chain: &'a C,
     gate: &'a G,
-    desk: Mutex<Desk<C>>,
+    scheduler: Mutex<Scheduler<C>>,
     called: Condvar,
     not_full: Condvar,
     over: Condvar,
 }
 
-/// What the calling thread finds at the desk.
+/// What the calling thread finds at the scheduler.
 enum Turn<C: Chain> {
     Work(Picked<C>),
     Over(Option<Held<C>>),
@@ -58,7 +58,7 @@ impl<'a, C: Chain, G, R> Helpers<'a, C, G, R> {
             alloc,
             chain,
             gate,
-            desk: Mutex::new(Desk::new(alloc)),
+            scheduler: Mutex::new(Scheduler::new(alloc)),
             called: Condvar::new(),
             not_full: Condvar::new(),
             over: Condvar::new(),
@@ -80,47 +80,47 @@ impl<'a, C: Chain, G, R> Helpers<'a, C, G, R> {
 }
 
 impl<'a, C: Chain, G: Gate, R: Wait> Helpers<'a, C, G, R> {
-    /// The next chunk for a helper; none once the desk is closed.
+    /// The next chunk for a helper; none once the scheduler is closed.
     fn next(&self) -> Option<Picked<C>> {
-        let mut desk = self.desk.lock(self.rt);
+        let mut scheduler = self.scheduler.lock(self.rt);
         for _ in self.rt.forever() {
-            let (picked, calls) = desk.pick(self.rt);
+            let (picked, calls) = scheduler.pick(self.rt);
             match picked {
                 Some(picked) => {
-                    drop(desk);
+                    drop(scheduler);
                     self.wake(calls);
                     return Some(picked);
                 }
                 None => {}
             }
-            if desk.is_closed() {
+            if scheduler.is_closed() {
                 return None;
             }
-            desk.record_idle();
-            desk = self.called.wait(self.rt, desk);
+            scheduler.record_idle();
+            scheduler = self.called.wait(self.rt, scheduler);
         }
         unreachable!()
     }
 
     /// The next chunk for the calling thread, or the floor, once it has ended.
     fn turn(&self) -> Turn<C> {
-        let mut desk = self.desk.lock(self.rt);
+        let mut scheduler = self.scheduler.lock(self.rt);
         for _ in self.rt.forever() {
-            let (picked, calls) = desk.pick(self.rt);
+            let (picked, calls) = scheduler.pick(self.rt);
             match picked {
                 Some(picked) => {
-                    drop(desk);
+                    drop(scheduler);
                     self.wake(calls);
                     return Turn::Work(picked);
                 }
                 None => {}
             }
-            if desk.is_over() {
-                return Turn::Over(desk.take_floor());
+            if scheduler.is_over() {
+                return Turn::Over(scheduler.take_floor());
             }
-            desk.record_awaited(true);
-            desk = self.over.wait(self.rt, desk);
-            desk.record_awaited(false);
+            scheduler.record_awaited(true);
+            scheduler = self.over.wait(self.rt, scheduler);
+            scheduler.record_awaited(false);
         }
         unreachable!()
     }
@@ -145,30 +145,30 @@ impl<'a, C: Chain, G: Gate, R: Wait> Helpers<'a, C, G, R> {
     {
         let _cut = cut;
         let mut item = item;
-        let mut desk = self.desk.lock(self.rt);
+        let mut scheduler = self.scheduler.lock(self.rt);
         for _ in self.rt.forever() {
-            item = match desk.give(worker, item) {
+            item = match scheduler.give(worker, item) {
                 Some(item) => item,
                 None => {
-                    desk.record_inside(worker, true);
-                    let calls = desk.calls_at_end(!self.gate.is_open());
-                    drop(desk);
+                    scheduler.record_inside(worker, true);
+                    let calls = scheduler.calls_at_end(!self.gate.is_open());
+                    drop(scheduler);
                     return self.wake(calls);
                 }
             };
-            desk.record_crowded();
-            desk = self.not_full.wait(self.rt, desk);
+            scheduler.record_crowded();
+            scheduler = self.not_full.wait(self.rt, scheduler);
         }
         unreachable!()
     }
 
     /// Sends a chunk back, which stops the floor.
     fn back(&self, worker: usize, item: C::Item) {
-        let mut desk = self.desk.lock(self.rt);
-        desk.back(worker, item);
-        desk.record_inside(worker, true);
-        let calls = desk.calls_at_end(!self.gate.is_open());
-        drop(desk);
+        let mut scheduler = self.scheduler.lock(self.rt);
+        scheduler.back(worker, item);
+        scheduler.record_inside(worker, true);
+        let calls = scheduler.calls_at_end(!self.gate.is_open());
+        drop(scheduler);
         self.wake(calls);
     }
 
@@ -177,14 +177,14 @@ impl<'a, C: Chain, G: Gate, R: Wait> Helpers<'a, C, G, R> {
         if self.gate.is_open() {
             return;
         }
-        let mut desk = self.desk.lock(self.rt);
-        desk.record_inside(worker, false);
-        let calls = desk.calls_at_end(false);
-        drop(desk);
+        let mut scheduler = self.scheduler.lock(self.rt);
+        scheduler.record_inside(worker, false);
+        let calls = scheduler.calls_at_end(false);
+        drop(scheduler);
         self.wake(calls);
     }
 
-    /// Lays a floor on the desk. Where the gate never holds an item, nobody asks what it was notified of.
+    /// Lays a floor on the scheduler. Where the gate never holds an item, nobody asks what it was notified of.
     pub(crate) fn lay(&self, held: Held<C>) -> Result<(), AllocError> {
         let count = if self.gate.is_open() {
             0
@@ -195,11 +195,11 @@ impl<'a, C: Chain, G: Gate, R: Wait> Helpers<'a, C, G, R> {
         for _worker in 0..count {
             inside.push(false)?;
         }
-        self.desk.lock(self.rt).open(held, inside);
+        self.scheduler.lock(self.rt).open(held, inside);
         Ok(())
     }
 
-    /// Moves the floor on the desk until it has ended, and takes it from there.
+    /// Moves the floor on the scheduler until it has ended, and takes it from there.
     pub(crate) fn moved(&self) -> Option<Held<C>> {
         for _ in self.rt.forever() {
             match self.turn() {
@@ -267,7 +267,7 @@ impl<'a, C: Chain, G: Gate, R: Wait> Company for Helpers<'a, C, G, R> {
     }
 
     fn close(&self) {
-        self.desk.lock(self.rt).close();
+        self.scheduler.lock(self.rt).close();
         self.called.notify_all();
     }
 }

@@ -34,7 +34,7 @@ fn new_watch<R: Clock + Drop>(rt: R, waits: [(usize, u64, u64); 2]) -> Watch<R> 
 }
 
 impl<R: Clock + Drop> Watch<R> {
-    fn told(&self, stage: usize, digit: u64) {
+    fn record(&self, stage: usize, digit: u64) {
         let (own, other) = match stage {
             0 => (&self.first, &self.second),
             _ => (&self.second, &self.first),
@@ -74,7 +74,7 @@ impl<R: Clock + Drop> Watch<R> {
 
 impl<R: Clock + Drop> Gate for Watch<R> {
     fn enter(&self, stage: usize, number: usize) {
-        self.told(stage, (number as u64).wrapping_mul(2).wrapping_add(1));
+        self.record(stage, (number as u64).wrapping_mul(2).wrapping_add(1));
         if (stage, number) == (0, 0) {
             let _ = std::thread::sleep(&self.rt, Duration::from_millis(20));
             self.early
@@ -83,7 +83,7 @@ impl<R: Clock + Drop> Gate for Watch<R> {
     }
 
     fn left(&self, stage: usize, number: usize) {
-        self.told(stage, (number as u64).wrapping_mul(2).wrapping_add(2));
+        self.record(stage, (number as u64).wrapping_mul(2).wrapping_add(2));
     }
 }
 

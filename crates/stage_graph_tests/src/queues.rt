@@ -21,12 +21,12 @@ static QUEUE_STEPS: [QueueStep; 8] = [
 fn queue_of_two(rt: HostRuntime) -> Result<(), Fail> {
     let mut queue = Queue::new(rt.alloc(), 2)?;
     for (pushed, back, front, len) in QUEUE_STEPS.iter() {
-        let told = match pushed {
+        let answer = match pushed {
             Some(value) => queue.push(*value).err(),
             None => queue.pop(),
         };
         let found = (queue.front().copied(), queue.len());
-        assert_eq!(rt; (told, found), (*back, (*front, *len)));
+        assert_eq!(rt; (answer, found), (*back, (*front, *len)));
         let ends = (queue.is_empty(), queue.is_full(), queue.capacity());
         assert_eq!(rt; ends, (*len == 0, *len == 2, 2));
     }

@@ -36,13 +36,13 @@ impl<'a> Flaky<'a> {
 }
 
 impl<'a> Read for Flaky<'a> {
-    fn read(&mut self, room: &mut [u8]) -> io::Result<usize> {
+    fn read(&mut self, buffer: &mut [u8]) -> io::Result<usize> {
         self.calls = self.calls.wrapping_add(1);
         if self.calls == self.good.wrapping_add(1) {
             return Err(io::Error::from(ErrorKind::Interrupted));
         }
-        let count = room.len().min(self.size).min(self.bytes.len());
-        room[..count].copy_from_slice(&self.bytes[..count]);
+        let count = buffer.len().min(self.size).min(self.bytes.len());
+        buffer[..count].copy_from_slice(&self.bytes[..count]);
         self.bytes = &self.bytes[count..];
         Ok(count)
     }

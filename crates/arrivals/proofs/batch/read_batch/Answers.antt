@@ -13,7 +13,7 @@ loop-alloc-init g c =
     let len = c.new-origins.ensures.len in (
       (
         [],
-        adds_none c.args.seats.now,
+        adds_none c.args.queues.now,
         λ records are. (none, rw (append-nil records) are),
         λ v text start records fits. rw (append-nil records) fits,
         len,
@@ -68,14 +68,14 @@ loop-alloc-preserved g c =
     let took = c.in_ok-take_record.ensures in
     let read = c.in-Ok-Some.ensures in
     let given = rw c.in-Ok-Some.field-0-is at read.given in
-    let room = given.room in
+    let capacity = given.capacity in
     let small = one_size c.loop-alloc.capture.progress.version r given.limits in
     let bytes = sizes_push inv.0.0 r in
     let few = c.if-bytes-lt-ENOUGH_BYTES.true in
     let before = inv.2 in (
       (
         inv.0.0 ++ r ∷ [],
-        adds_more inv.0.0 r _ _ _ inv.0.1 took.seats,
+        adds_more inv.0.0 r _ _ _ inv.0.1 took.queues,
         λ records tiers.
             (let own = inv.0.2 records tiers in (
               took.origins (records ++ inv.0.0) own.1 ∙ ap (λ os. os ++ origins_after (records ++ inv.0.0) (r ∷ [])) own.0 ∙ sym (origins_push records inv.0.0 r),
@@ -89,10 +89,10 @@ loop-alloc-preserved g c =
         omega (arith, bytes, inv.0.5, few, small),
       ),
       rw c.in-Ok-Some.field-0-is at read.stands.0.stage,
-      omega (arith, room, before, took.len, one_piece r),
+      omega (arith, capacity, before, took.len, one_piece r),
       read.count ∙ inv.3,
       read.stands.1 ∙ inv.4,
-      inr (omega (arith, room, before)),
+      inr (omega (arith, capacity, before)),
     )
 
 pub returns-clause-batch : goal.returns-clause-batch

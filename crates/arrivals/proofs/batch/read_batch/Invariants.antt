@@ -13,14 +13,14 @@ use Rattle.arrivals.proofs.batch.read_batch.Given as goal
 -- some records were read, their pieces wait, and their connections have the tiers that they gave
 abbrev pub invariant-loop-alloc : goal.invariant-loop-alloc
 invariant-loop-alloc g l =
-    ((rs : List Record) × Adds rs l.fn.seats l.seats
+    ((rs : List Record) × Adds rs l.fn.queues l.queues
     × ((records : List Record) → AreTiers records l.fn.tiers → (l.origins.items ≡ origins_after records rs) × AreTiers (records ++ rs) l.tiers)
     × ((v : Version) (text : Option (List ℕ)) (start : ℕ) (records : List Record) → ReaderAfter v text start records l.fn.capture.progress l.fn.capture.input.now.bytes
     → ReaderAfter v text start (records ++ rs) l.capture.progress l.capture.input.now.bytes)
     × (vec_len l.origins ≡ piece_count rs) × (l.bytes ≡ sizes_of rs) × (piece_count rs ≤ l.fn.pieces) × (sizes_of rs < enough_bytes + max_piece_bytes))
-    × (l.capture.progress.stage ≡ Reading) × (l.capture.progress.room + vec_len l.origins ≤ l.fn.capture.progress.room)
+    × (l.capture.progress.stage ≡ Reading) × (l.capture.progress.capacity + vec_len l.origins ≤ l.fn.capture.progress.capacity)
     × (l.capture.input.now.failures ≡ l.fn.capture.input.now.failures) × (l.capture.input.ghost_name ≡ l.fn.capture.input.ghost_name)
-    × ((l.bytes ≡ 0) ⊎ (l.capture.progress.room < l.fn.capture.progress.room))
+    × ((l.bytes ≡ 0) ⊎ (l.capture.progress.capacity < l.fn.capture.progress.capacity))
 
 abbrev pub decreases-loop-alloc : goal.decreases-loop-alloc
-decreases-loop-alloc g l = l.capture.progress.room
+decreases-loop-alloc g l = l.capture.progress.capacity

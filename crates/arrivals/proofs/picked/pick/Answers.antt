@@ -1,6 +1,6 @@
 use Rattle.std.proofs.Common.{take, get_or}
 use Rattle.std.proofs.lemmas.List.{take_more}
-use Rattle.arrivals.proofs.PickedSeats.{takes_next}
+use Rattle.arrivals.proofs.PickedQueues.{takes_next}
 use Rattle.arrivals.proofs.picked.pick.Goals as goal
 
 pub loop-conn-preserved : goal.loop-conn-preserved

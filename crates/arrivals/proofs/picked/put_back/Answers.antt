@@ -12,7 +12,7 @@ loop-one-preserved-in-Some c =
     let inv = c.loop-one.invariant in
     let one = c.in-Some.one in (
       ap (λ (ps : List Picked). with_picked c.loop-one.list ps) (sym steps) ∙ inv.0,
-      rw (length-set c.loop-one.list one.conn one.seat) (All-tail (λ (p : Picked). p.conn < length c.loop-one.list) one (into_iter_items c.next.new.self) (rw steps at inv.1)),
+      rw (length-set c.loop-one.list one.conn one.queue) (All-tail (λ (p : Picked). p.conn < length c.loop-one.list) one (into_iter_items c.next.new.self) (rw steps at inv.1)),
     )
 
 pub loop-one-preserved : goal.loop-one-preserved
@@ -21,5 +21,5 @@ loop-one-preserved c =
     let inv = c.loop-one.invariant in
     let one = c.in-Some.one in (
       ap (λ (ps : List Picked). with_picked c.loop-one.list ps) (sym steps) ∙ inv.0,
-      rw (length-set c.loop-one.list one.conn one.seat) (All-tail (λ (p : Picked). p.conn < length c.loop-one.list) one (into_iter_items c.next.new.self) (rw steps at inv.1)),
+      rw (length-set c.loop-one.list one.conn one.queue) (All-tail (λ (p : Picked). p.conn < length c.loop-one.list) one (into_iter_items c.next.new.self) (rw steps at inv.1)),
     )

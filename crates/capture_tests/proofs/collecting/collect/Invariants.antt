@@ -7,4 +7,4 @@ invariant-loop-record g l = ReaderAfter l.version l.fn.input.bytes l.start l.rec
     × (l.reader.input.ghost_name ≡ l.initial.reader.input.ghost_name) × (l.reader.input.now.failures ≡ l.initial.reader.input.now.failures)
 
 abbrev pub decreases-loop-record : goal.decreases-loop-record
-decreases-loop-record g l = l.reader.progress.room
+decreases-loop-record g l = l.reader.progress.capacity

@@ -14,4 +14,4 @@ invariant-loop-next g l =
     × (l.capture.input.ghost_name ≡ l.initial.capture.input.ghost_name) × (l.capture.input.now.failures ≡ l.fn.reader.failures) × (l.writer.failures ≡ l.fn.writer.failures)
 
 abbrev pub decreases-loop-next : goal.decreases-loop-next
-decreases-loop-next g l = l.capture.progress.room
+decreases-loop-next g l = l.capture.progress.capacity

@@ -10,16 +10,16 @@ pub returns-then-bytes-len-eq10-clause-line : goal.returns-then-bytes-len-eq10-c
 returns-then-bytes-len-eq10-clause-line g c =
     let some = c.in-Ok.ensures.some in
     let line = c.loop-len.invariant.0 in
-    let on = goes_on c.loop-len.len (65 - c.loop-len.len) c.in-Ok.count c.loop-len.bytes c.read_to_feed_of.new.room (omega arith) some.1 line.feeds c.in-Ok.ensures.feed in
-    line_fed _ _ _ _ _ _ (takes_part _ _ _ _ _ _ _ _ _ _ _ line.takes (omega arith) some.1 some.2 some.3) on.0 (omega (arith, some.0)) on.1 (omega (arith, some.1, c.read_to_feed_of.auto.room, length-drop {A = ℕ})) c.if-bytes-len-eq10.true
+    let on = goes_on c.loop-len.len (65 - c.loop-len.len) c.in-Ok.count c.loop-len.bytes c.read_to_feed_of.new.buffer (omega arith) some.1 line.feeds c.in-Ok.ensures.feed in
+    line_fed _ _ _ _ _ _ (takes_part _ _ _ _ _ _ _ _ _ _ _ line.takes (omega arith) some.1 some.2 some.3) on.0 (omega (arith, some.0)) on.1 (omega (arith, some.1, c.read_to_feed_of.auto.buffer, length-drop {A = ℕ})) c.if-bytes-len-eq10.true
 
 pub loop-len-preserved : goal.loop-len-preserved
 loop-len-preserved g c =
     let some = c.in-Ok.ensures.some in
     let line = c.loop-len.invariant.0 in
-    let on = goes_on c.loop-len.len (65 - c.loop-len.len) c.in-Ok.count c.loop-len.bytes c.read_to_feed_of.new.room (omega arith) some.1 line.feeds c.in-Ok.ensures.feed in (
+    let on = goes_on c.loop-len.len (65 - c.loop-len.len) c.in-Ok.count c.loop-len.bytes c.read_to_feed_of.new.buffer (omega arith) some.1 line.feeds c.in-Ok.ensures.feed in (
       line_unfed _ _ _ _ _ _ (takes_part _ _ _ _ _ _ _ _ _ _ _ line.takes (omega arith) some.1 some.2 some.3) on.0 (omega (arith, some.0)) on.1 c.if-bytes-len-eq10.false,
-      omega (arith, some.1, c.read_to_feed_of.auto.room, length-drop {A = ℕ}),
+      omega (arith, some.1, c.read_to_feed_of.auto.buffer, length-drop {A = ℕ}),
       c.in-Ok.ensures.count ∙ c.loop-len.invariant.2,
       search (rules, places),
     )
@@ -39,7 +39,7 @@ pub returns-then-bytes-len-eq10-clause-most : goal.returns-then-bytes-len-eq10-c
 returns-then-bytes-len-eq10-clause-most g c =
     let some = c.in-Ok.ensures.some in
     took_piece _ _ _ _ _ _ _ _ _ c.loop-len.invariant.0.takes some.1 some.3
-    (λ left. omega (arith, left, some.1, some.2, c.read_to_feed_of.auto.room, length-drop {A = ℕ}, length-take c.loop-len.len c.loop-len.bytes))
+    (λ left. omega (arith, left, some.1, some.2, c.read_to_feed_of.auto.buffer, length-drop {A = ℕ}, length-take c.loop-len.len c.loop-len.bytes))
 
 pub returns-in-Err-clause-most : goal.returns-in-Err-clause-most
 returns-in-Err-clause-most g c = took_more _ 1 _ _ _ _ _ _ c.loop-len.invariant.0.takes (λ left. omega (arith, left, length-take c.loop-len.len c.loop-len.bytes)) c.in-Err.ensures.most

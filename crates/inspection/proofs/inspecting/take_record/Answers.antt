@@ -7,13 +7,13 @@ use Rattle.inspection.proofs.inspecting.take_record.Goals as goal
 
 pub take_end-requires-clause-shares : goal.take_end-requires-clause-shares
 take_end-requires-clause-shares c =
-    let given = c.requires.room in
-    let room = given.3 in
-    room_of_one given.0 given.1 c.args.found.now c.in-End.conn (end_number _ _ _ c.in-End.is c.requires.number) given.2.found (omega (arith, room)) (omega (arith, room))
+    let given = c.requires.capacity in
+    let capacity = given.3 in
+    room_of_one given.0 given.1 c.args.found.now c.in-End.conn (end_number _ _ _ c.in-End.is c.requires.number) given.2.found (omega (arith, capacity)) (omega (arith, capacity))
 
 pub take_end-requires-clause-opened : goal.take_end-requires-clause-opened
 take_end-requires-clause-opened c = λ some.
-    let given = c.requires.room in
+    let given = c.requires.capacity in
     open_some c.in-End.tick given.0 given.1 c.args.found.now c.in-End.conn (end_number _ _ _ c.in-End.is c.requires.number) given.2.found some
 
 pub returns-in-End : goal.returns-in-End
@@ -25,23 +25,23 @@ pub returns-in-Tier : goal.returns-in-Tier
 returns-in-Tier c = λ records arrivals holds later.
     holds_tier c.in-Tier.conn c.in-Tier.tier records arrivals c.args.next.now c.args.connections.now c.args.found.now c.take_tier.new.self c.in-Tier.is (tier_number _ _ _ c.in-Tier.is c.requires.number) c.take_tier.ensures holds
 
-pub read_piece-requires-clause-room : goal.read_piece-requires-clause-room
-read_piece-requires-clause-room c =
-    let given = c.requires.room in
+pub read_piece-requires-clause-capacity : goal.read_piece-requires-clause-capacity
+read_piece-requires-clause-capacity c =
+    let given = c.requires.capacity in
     let size : size_of c.args.next.now ≡ length c.as_slice-bytes.result.now = ap size_of c.in-Piece.is ∙ ap length (sym c.as_slice-bytes.ensures) in
-    let room = given.3 in
+    let capacity = given.3 in
     has_room given.0 given.1 c.args.connections.now c.args.found.now c.from-in-Piece.result (length c.as_slice-bytes.result.now)
-    (rw c.from-in-Piece.ensures (piece_number _ _ _ _ c.in-Piece.is c.requires.number)) given.2 (omega (arith, size, room))
+    (rw c.from-in-Piece.ensures (piece_number _ _ _ _ c.in-Piece.is c.requires.number)) given.2 (omega (arith, size, capacity))
 
-pub take_piece-requires-clause-room : goal.take_piece-requires-clause-room
-take_piece-requires-clause-room c =
-    let given = c.requires.room in
+pub take_piece-requires-clause-capacity : goal.take_piece-requires-clause-capacity
+take_piece-requires-clause-capacity c =
+    let given = c.requires.capacity in
     let size : size_of c.args.next.now ≡ length c.as_slice-bytes.result.now = ap size_of c.in-Piece.is ∙ ap length (sym c.as_slice-bytes.ensures) in
-    let room = given.3 in
-    tail_room given.0 given.1 c.args.found.now c.in-Piece.conn (length c.as_slice-bytes.result.now) (piece_number _ _ _ _ c.in-Piece.is c.requires.number) given.2.found (omega (arith, size, room))
+    let capacity = given.3 in
+    tail_room given.0 given.1 c.args.found.now c.in-Piece.conn (length c.as_slice-bytes.result.now) (piece_number _ _ _ _ c.in-Piece.is c.requires.number) given.2.found (omega (arith, size, capacity))
 
 pub take_piece-requires-clause-opened : goal.take_piece-requires-clause-opened
-take_piece-requires-clause-opened c = let given = c.requires.room in open_room given.0 given.1 c.args.found.now given.2.found
+take_piece-requires-clause-opened c = let given = c.requires.capacity in open_room given.0 given.1 c.args.found.now given.2.found
 
 pub returns-in_ok-read_piece-in-Piece : goal.returns-in_ok-read_piece-in-Piece
 returns-in_ok-read_piece-in-Piece c = on_ok c.take_piece.result c.take_piece.ensures

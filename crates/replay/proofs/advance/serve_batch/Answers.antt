@@ -12,20 +12,20 @@ cut-requires-clause-ready g c = λ κs lives.
 pub merge-requires : goal.merge-requires
 merge-requires g c =
     let next = c.requires.next in
-    lists_count _ _ next.0 next.1 next.2 _ _ _ _ next.3 c.in_ok-seats.ensures
+    lists_count _ _ next.0 next.1 next.2 _ _ _ _ next.3 c.in_ok-queues.ensures
 
 pub serve_parts-requires-clause-next : goal.serve_parts-requires-clause-next
 serve_parts-requires-clause-next g c =
     let next = c.requires.next in
     let found = c.in_ok-pieces.ensures in
-    let b = brings _ _ next.0 next.1 next.2 _ _ _ _ _ _ _ next.3 c.in_ok-seats.ensures found.origins found.found found.seats c.in_ok-parts.ensures.joined in
+    let b = brings _ _ next.0 next.1 next.2 _ _ _ _ _ _ _ next.3 c.in_ok-queues.ensures found.origins found.found found.queues c.in_ok-parts.ensures.joined in
     (next.2, b.more, b.up)
 
 pub returns-clause-serves : goal.returns-clause-serves
 returns-clause-serves g c = λ records rs arrivals next.
     let found = c.in_ok-pieces.ensures in
     let served = c.in_ok-serve_parts.ensures in
-    let b = brings _ _ records rs arrivals _ _ _ _ _ _ _ next c.in_ok-seats.ensures found.origins found.found found.seats c.in_ok-parts.ensures.joined in
+    let b = brings _ _ records rs arrivals _ _ _ _ _ _ _ next c.in_ok-queues.ensures found.origins found.found found.queues c.in_ok-parts.ensures.joined in
     record {
       more = b.more;
       serves = record { reads = b.reads; arrived = b.arrived; stands = served.stands arrivals b.more b.up };
@@ -33,7 +33,7 @@ returns-clause-serves g c = λ records rs arrivals next.
     }
 
 pub returns-clause-idle : goal.returns-clause-idle
-returns-clause-idle g c = none_wait _ _ _ c.in_ok-seats.ensures c.in_ok-pieces.ensures.seats
+returns-clause-idle g c = none_wait _ _ _ c.in_ok-queues.ensures c.in_ok-pieces.ensures.queues
 
 pub returns-in_err-serve_parts-clause-many : goal.returns-in_err-serve_parts-clause-many
 returns-in_err-serve_parts-clause-many g c =
@@ -43,7 +43,7 @@ returns-in_err-serve_parts-clause-many g c =
     (λ n full. (
       full.0,
       λ records rs arrivals next.
-          (let b = brings _ _ records rs arrivals _ _ _ _ _ _ _ next c.in_ok-seats.ensures found.origins found.found found.seats c.in_ok-parts.ensures.joined in
+          (let b = brings _ _ records rs arrivals _ _ _ _ _ _ _ next c.in_ok-queues.ensures found.origins found.found found.queues c.in_ok-parts.ensures.joined in
           let is = answered_is _ _ arrivals _ b.up.stands.counted in
           let count = come_count _ _ arrivals b.more _ _ b.up in
           let all = full.3 in
@@ -66,7 +66,7 @@ returns-in_err-serve_parts-clause-part g c =
     passed_on c.from_residual-in_err-serve_parts.result _ _
     (λ f same. rw same (on_cut c.in_err-serve_parts.field-0.0 _ _
     (λ short. inr (λ records rs arrivals next.
-    (let b = brings _ _ records rs arrivals _ _ _ _ _ _ _ next c.in_ok-seats.ensures found.origins found.found found.seats c.in_ok-parts.ensures.joined in
+    (let b = brings _ _ records rs arrivals _ _ _ _ _ _ _ next c.in_ok-queues.ensures found.origins found.found found.queues c.in_ok-parts.ensures.joined in
     let is = answered_is _ _ arrivals _ b.up.stands.counted in
     let few = short.2 in
     record {

@@ -1,6 +1,6 @@
 use Rattle.std.proofs.Common.{arith, subst, ◌≤◌}
 use Rattle.reference.specs.Reference.{offers_of}
-use Rattle.replay.specs.Backs.{given_by}
+use Rattle.replay.specs.Backs.{response_of}
 use Rattle.reference.proofs.Offering.{offers_few}
 use Rattle.replay.proofs.Judging.{answered_is, samples_are, counts_kept, stands_after}
 use Rattle.replay.proofs.decider.decide_next.Goals as goal
@@ -8,11 +8,11 @@ use Rattle.replay.proofs.decider.decide_next.Goals as goal
 pub decide-requires-clause-offers : goal.decide-requires-clause-offers
 decide-requires-clause-offers g c =
     let files = g.F.Tree.files in let terms = c.args.server.now.served in
-    let given = c.requires.stands in
+    let response = c.requires.stands in
     let below = c.requires.few in
-    let is = answered_is files terms given.0 c.args.decider.now given.1 in
-    let few = offers_few files terms given.0 in
-    (offers_of files terms given.0, given.1.fits, omega (arith, below, is, few))
+    let is = answered_is files terms response.0 c.args.decider.now response.1 in
+    let few = offers_few files terms response.0 in
+    (offers_of files terms response.0, response.1.fits, omega (arith, below, is, few))
 
 pub decide-requires-clause-clock : goal.decide-requires-clause-clock
 decide-requires-clause-clock g c =
@@ -21,14 +21,14 @@ decide-requires-clause-clock g c =
 pub record_reply-requires-clause-counts : goal.record_reply-requires-clause-counts
 record_reply-requires-clause-counts g c =
     let files = g.F.Tree.files in let terms = c.args.server.now.served in
-    let given = c.requires.stands in
-    let judged = c.in_ok-answer.ensures.given_by (offers_of files terms given.0) given.1.fits (samples_are files terms given.0 c.args.decider.now given.1) in
-    let few = given.1.few in
-    let kept = counts_kept _ files terms given.0 c.args.origin c.args.what.now c.args.decider.now c.decide.new.self (given_by c.in_ok-answer.answer) 18446744073709551615 given.1 judged (omega (arith, few)) in
+    let response = c.requires.stands in
+    let judged = c.in_ok-answer.ensures.response_of (offers_of files terms response.0) response.1.fits (samples_are files terms response.0 c.args.decider.now response.1) in
+    let few = response.1.few in
+    let kept = counts_kept _ files terms response.0 c.args.origin c.args.what.now c.args.decider.now c.decide.new.self (response_of c.in_ok-answer.answer) 18446744073709551615 response.1 judged (omega (arith, few)) in
     kept.0
 
 pub returns-clause-stands : goal.returns-clause-stands
 returns-clause-stands g c = λ arrivals a stands from meaning.
     let files = g.F.Tree.files in let terms = c.args.server.now.served in
-    let judged = c.in_ok-answer.ensures.given_by (offers_of files terms arrivals) stands.fits (samples_are files terms arrivals c.args.decider.now stands) in
-    stands_after _ files terms arrivals a c.args.origin c.args.what.now c.args.decider.now c.decide.new.self c.record_reply.new.self (given_by c.in_ok-answer.answer) stands (rw from c.requires.stands.2) from meaning c.requires.few judged c.record_reply.ensures
+    let judged = c.in_ok-answer.ensures.response_of (offers_of files terms arrivals) stands.fits (samples_are files terms arrivals c.args.decider.now stands) in
+    stands_after _ files terms arrivals a c.args.origin c.args.what.now c.args.decider.now c.decide.new.self c.record_reply.new.self (response_of c.in_ok-answer.answer) stands (rw from c.requires.stands.2) from meaning c.requires.few judged c.record_reply.ensures

@@ -20,9 +20,9 @@ loop-message-init g c = (
 
 pub write_message-requires-clause-stands : goal.write_message-requires-clause-stands
 write_message-requires-clause-stands g c =
-    let given = c.requires.stands in
+    let response = c.requires.stands in
     let sofar = take c.loop-message.message-index c.args.messages.now in
-    (given.0 ++ arrivals_with 0 0 c.args.origin sofar, c.loop-message.invariant.0 given.0 0 0 given.1, by_more 0 0 c.args.origin sofar given.0 given.2)
+    (response.0 ++ arrivals_with 0 0 c.args.origin sofar, c.loop-message.invariant.0 response.0 0 0 response.1, by_more 0 0 c.args.origin sofar response.0 response.2)
 
 -- the message that the loop is at
 pub write_message-requires-clause-few : goal.write_message-requires-clause-few

@@ -59,7 +59,7 @@ returns-in-Err-next_record-clause-fault g c =
     (most_of inv.7 c.loop-next.invariant.6 c.loop-next.invariant.5)
 
 pub answer_record-requires-clause-record : goal.answer_record-requires-clause-record
-answer_record-requires-clause-record g c = (c.loop-next.capture.progress.version, (rw c.in-Ok-Some.field-0-is at c.in-Ok-Some.ensures.given).limits)
+answer_record-requires-clause-record g c = (c.loop-next.capture.progress.version, (rw c.in-Ok-Some.field-0-is at c.in-Ok-Some.ensures.response).limits)
 
 pub answer_record-requires-clause-limit : goal.answer_record-requires-clause-limit
 answer_record-requires-clause-limit g c =
@@ -67,14 +67,14 @@ answer_record-requires-clause-limit g c =
     let most = c.loop-next.invariant.6 in
     (c.loop-next.invariant.5, omega (arith, few, most))
 
-pub answer_record-requires-clause-room : goal.answer_record-requires-clause-room
-answer_record-requires-clause-room g c =
+pub answer_record-requires-clause-capacity : goal.answer_record-requires-clause-capacity
+answer_record-requires-clause-capacity g c =
     let inv = c.loop-next.invariant.0 in
     let fits = gave_some inv.0 _ _ _ inv.1 _ _ _ c.in-Ok-Some.field-0-is (c.in-Ok-Some.ensures.next _ _ _ _ inv.3).0 in (
       inv.1,
       inv.2,
       inv.4,
-      sizes_left inv.0 _ _ _ _ inv.1 _ _ inv.3 (rw c.in-Ok-Some.field-0-is at c.in-Ok-Some.ensures.given).room,
+      sizes_left inv.0 _ _ _ _ inv.1 _ _ inv.3 (rw c.in-Ok-Some.field-0-is at c.in-Ok-Some.ensures.response).capacity,
       is_later inv.0 _ inv.1 inv.2 c.in-Ok-Some.next fits.rules inv.4.arrived,
     )
 

@@ -20,4 +20,4 @@ invariant-loop-next g l =
     × (l.decider.start ≤ 4102444800) × (l.decider.totals.answered ≤ l.most) × (l.most ≡ (format_of l.version).max_messages)
 
 abbrev pub decreases-loop-next : goal.decreases-loop-next
-decreases-loop-next g l = l.capture.progress.room
+decreases-loop-next g l = l.capture.progress.capacity

@@ -41,7 +41,7 @@ loop-next-init g c = (
     count_none c.args.queries,
     omega arith,
     refl,
-    first_room c.args.queries _ _ _ (rw (c.start-2.ensures, c.later-version.ensures, c.version.ensures) at c.room_after_first-room.ensures),
+    first_room c.args.queries _ _ _ (rw (c.start-2.ensures, c.later-version.ensures, c.version.ensures) at c.capacity_after_first-capacity.ensures),
   ),
   refl,
   c.in-Ok.ensures.ok.count,
@@ -68,15 +68,15 @@ returns-clause-fault g c =
 pub returns-clause-ok : goal.returns-clause-ok
 returns-clause-ok g c =
     let inv = c.loop-next.invariant.0 in
-    let fits = rw c.last_line_size.ensures at c.if-room-last_line_size.false in
-    slim_ok_end c.args.queries c.args.to c.write_last_line.result _ _ _ _ _ _ c.loop-next.count c.loop-next.room inv.0 inv.1 inv.5 inv.6 (all_room _ _ _ _ inv.0 _ inv.2) inv.2.rules inv.3.arrived inv.3.kept inv.4 (all_read _ _ _ _ inv.0 _ _ c.in-Ok-None.field-0-is (c.in-Ok-None.ensures.next _ _ _ _ inv.2).0) inv.8 fits c.write_last_line.ensures.prefix
+    let fits = rw c.last_line_size.ensures at c.if-capacity-last_line_size.false in
+    slim_ok_end c.args.queries c.args.to c.write_last_line.result _ _ _ _ _ _ c.loop-next.count c.loop-next.capacity inv.0 inv.1 inv.5 inv.6 (all_room _ _ _ _ inv.0 _ inv.2) inv.2.rules inv.3.arrived inv.3.kept inv.4 (all_read _ _ _ _ inv.0 _ _ c.in-Ok-None.field-0-is (c.in-Ok-None.ensures.next _ _ _ _ inv.2).0) inv.8 fits c.write_last_line.ensures.prefix
 
-pub returns-then-room-last_line_size-clause-fault : goal.returns-then-room-last_line_size-clause-fault
-returns-then-room-last_line_size-clause-fault g c =
+pub returns-then-capacity-last_line_size-clause-fault : goal.returns-then-capacity-last_line_size-clause-fault
+returns-then-capacity-last_line_size-clause-fault g c =
     let inv = c.loop-next.invariant.0 in
-    let over = rw c.last_line_size.ensures at c.if-room-last_line_size.true in
-    rw c.too_large-then-room-last_line_size.ensures
-    (slim_over_end c.args.queries c.args.to _ _ _ _ _ _ _ c.loop-next.count c.loop-next.at c.loop-next.room inv.0 inv.1 _ inv.2 inv.5 inv.6 (all_room _ _ _ _ inv.0 _ inv.2) inv.3.arrived inv.3.kept inv.4 (all_read _ _ _ _ inv.0 _ _ c.in-Ok-None.field-0-is (c.in-Ok-None.ensures.next _ _ _ _ inv.2).0) inv.7 inv.8 over)
+    let over = rw c.last_line_size.ensures at c.if-capacity-last_line_size.true in
+    rw c.too_large-then-capacity-last_line_size.ensures
+    (slim_over_end c.args.queries c.args.to _ _ _ _ _ _ _ c.loop-next.count c.loop-next.at c.loop-next.capacity inv.0 inv.1 _ inv.2 inv.5 inv.6 (all_room _ _ _ _ inv.0 _ inv.2) inv.3.arrived inv.3.kept inv.4 (all_read _ _ _ _ inv.0 _ _ c.in-Ok-None.field-0-is (c.in-Ok-None.ensures.next _ _ _ _ inv.2).0) inv.7 inv.8 over)
 
 pub returns-in_err-more-clause-fault : goal.returns-in_err-more-clause-fault
 returns-in_err-more-clause-fault g c =
@@ -90,9 +90,9 @@ returns-in_default-clause-fault g c =
     let next = c.in-Ok-Some.next in
     let fits = gave_more _ _ _ _ own.0 _ _ _ c.in-Ok-Some.field-0-is (c.in-Ok-Some.ensures.next _ _ _ _ own.2).0 in
     let s = c.in_ok-more.ensures own.0 own.1 own.3 in
-    let over = rw c.in_default.is at c.room_after.ensures.none in
+    let over = rw c.in_default.is at c.capacity_after.ensures.none in
     rw c.too_large.ensures
-    (slim_over c.args.queries c.args.to _ _ _ _ _ _ _ _ c.loop-next.at c.loop-next.room c.loop-next.count own.0 own.1 next _ _ _ _ own.2 fits own.3.arrived s own.4 own.5 own.6 own.7 own.8 (rw c.deref.ensures.value at over))
+    (slim_over c.args.queries c.args.to _ _ _ _ _ _ _ _ c.loop-next.at c.loop-next.capacity c.loop-next.count own.0 own.1 next _ _ _ _ own.2 fits own.3.arrived s own.4 own.5 own.6 own.7 own.8 (rw c.deref.ensures.value at over))
 
 pub returns-in_err-write_records-clause-fault : goal.returns-in_err-write_records-clause-fault
 returns-in_err-write_records-clause-fault g c =
@@ -119,7 +119,7 @@ overflow_add-count g c =
     let few = s.few in
     let len = c.len-count.ensures in
     let given = rw c.in-Ok-Some.field-0-is at c.in-Ok-Some.ensures.given in
-    let small = count_small _ _ _ _ c.loop-next.count c.len-count.result _ own.0 _ c.in-Ok-Some.next own.2 given.room own.6 (omega (arith, few, len)) in
+    let small = count_small _ _ _ _ c.loop-next.count c.len-count.result _ own.0 _ c.in-Ok-Some.next own.2 given.capacity own.6 (omega (arith, few, len)) in
     omega (arith, small)
 
 pub loop-next-preserved-in_ok-write_records : goal.loop-next-preserved-in_ok-write_records
@@ -132,7 +132,7 @@ loop-next-preserved-in_ok-write_records g c =
     let few = s.few in
     let len : c.len-count.result ≡ length c.in_ok-more.more.items = search rules in
     let written = rw c.deref-in-loop-next.ensures.value at c.in_ok-write_records.ensures.prefix in
-    let left = rw c.deref.ensures.value at (rw c.in-Some.is at c.room_after.ensures.some) in
+    let left = rw c.deref.ensures.value at (rw c.in-Some.is at c.capacity_after.ensures.some) in
     let same = length-append own.0 (next ∷ []) in (
       (
         own.0 ++ next ∷ [],
@@ -160,7 +160,7 @@ loop-next-preserved g c =
     let few = s.few in
     let len : c.len-count.result ≡ length c.in_ok-more.more.items = search rules in
     let written = rw c.deref-in-loop-next.ensures.value at c.in_ok-write_records.ensures.prefix in
-    let left = rw c.deref.ensures.value at (rw c.in-Some.is at c.room_after.ensures.some) in
+    let left = rw c.deref.ensures.value at (rw c.in-Some.is at c.capacity_after.ensures.some) in
     let same = length-append own.0 (next ∷ []) in (
       (
         own.0 ++ next ∷ [],

@@ -19,8 +19,8 @@ invariant-loop-next g l =
     × Appends l.fn.writer.bytes l.writer.bytes (slim_before_stop l.fn.queries (later l.fn.to l.capture.progress.version) l.capture.progress.start records arrivals)
     × (l.count ≡ length (slimmed l.fn.queries records arrivals)) × (l.count ≤ sizes_of records + length records)
     × (l.at ≡ length records + 1)
-    × (length (slim_before_stop l.fn.queries (later l.fn.to l.capture.progress.version) l.capture.progress.start records arrivals) + l.room ≡ (format_of (later l.fn.to l.capture.progress.version)).max_text_bytes))
+    × (length (slim_before_stop l.fn.queries (later l.fn.to l.capture.progress.version) l.capture.progress.start records arrivals) + l.capacity ≡ (format_of (later l.fn.to l.capture.progress.version)).max_text_bytes))
     × (l.capture.input.ghost_name ≡ l.initial.capture.input.ghost_name) × (l.capture.input.now.failures ≡ l.fn.reader.failures) × (l.writer.failures ≡ l.fn.writer.failures)
 
 abbrev pub decreases-loop-next : goal.decreases-loop-next
-decreases-loop-next g l = l.capture.progress.room
+decreases-loop-next g l = l.capture.progress.capacity

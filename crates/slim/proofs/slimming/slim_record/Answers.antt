@@ -6,9 +6,9 @@ use Rattle.slim.proofs.Standing.{took_by, has_room, number_of, piece_stands, mor
 use Rattle.slim.proofs.slimming.slim_record.Goals as goal
 use Rattle.slim.proofs.slimming.slim_record.Goals.{in-Piece+in_ok-read_piece-in-Piece+in_ok-push_pieces-in-Piece, in-End+in_ok-push-in-End, in-Tier+in_ok-push-in-Tier}
 
-pub read_piece-requires-clause-room : goal.read_piece-requires-clause-room
-read_piece-requires-clause-room c =
-    let given = c.requires.room in
+pub read_piece-requires-clause-capacity : goal.read_piece-requires-clause-capacity
+read_piece-requires-clause-capacity c =
+    let given = c.requires.capacity in
     let size : size_of c.args.next.now ≡ length c.as_slice.result.now = ap size_of c.in-Piece.is ∙ ap length (sym c.as_slice.ensures) in
     let low : IsNumber c.in-Piece.conn = number_of _ _ c.in-Piece.is c.requires.number in
     let fits : sizes_of given.0 + length c.as_slice.result.now ≤ longest_text = (let h = given.3 in omega (arith, size, h)) in

@@ -31,10 +31,10 @@ prove-unreachable-requires g c =
     let none : has file (keys_of pages.entries) ≡ false = has_from_promote file pages c.promote.result false c.promote.ensures.value c.if-promote.false in
     let same : c.promote.new.self ≡ pages = unpromoted file pages c.promote.new.self c.promote.result c.promote.ensures.value c.if-promote.false c.promote.ensures.entries in
     let valid = rw same at c.len.ensures.valid in
-    let room : length pages.entries < length g.F.Tree.files = room_for_new file (length g.F.Tree.files) pages.entries valid.0 c.self.invariant.there none c.file-file.ensures.there in
+    let capacity : length pages.entries < length g.F.Tree.files = room_for_new file (length g.F.Tree.files) pages.entries valid.0 c.self.invariant.there none c.file-file.ensures.there in
     let len : c.len.result ≡ length pages.entries = rw same at c.len.ensures.len in
     let cap = rw same at c.cap.ensures in
-    omega (arith, room, len, cap, c.get.ensures.value, c.if-prove.true, c.self.invariant.room)
+    omega (arith, capacity, len, cap, c.get.ensures.value, c.if-prove.true, c.self.invariant.capacity)
 
 pub invariant_of-self-in_default : goal.invariant_of-self-in_default
 invariant_of-self-in_default g c =

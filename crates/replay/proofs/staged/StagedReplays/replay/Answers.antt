@@ -36,9 +36,9 @@ loop-messages-init g c =
         arrivals = [];
         read = rw (c.start.ensures, c.version-version.ensures) c.in-Ok.ensures.ok.after;
         tiers_are = tiers_none c.new-tiers.result c.new-tiers.ensures;
-        idle = waits_none _ c.new-seats.ensures;
+        idle = waits_none _ c.new-queues.ensures;
         answered = record {
-          serves = serves_none files terms _ _ (ap connections_of c.new-seats.ensures) (stands_none files terms _ (c.in_ok-controller_of.ensures.station ∙ ap (λ (s : Choice). station_for s.served) c.server.view_is) c.in_ok-controller_of.ensures.fits c.in_ok-controller_of.ensures.clock c.new.ensures);
+          serves = serves_none files terms _ _ (ap connections_of c.new-queues.ensures) (stands_none files terms _ (c.in_ok-controller_of.ensures.station ∙ ap (λ (s : Choice). station_for s.served) c.server.view_is) c.in_ok-controller_of.ensures.fits c.in_ok-controller_of.ensures.clock c.new.ensures);
           replies = first_written files terms c.start.result c.args.writer.now.bytes c.write_first_line.new.writer.bytes c.in_ok-write_first_line.ensures.written;
           limit = c.max_messages.ensures;
           within = (let none = ap (λ (t : Totals). t.answered) c.new.ensures in omega (arith, none));

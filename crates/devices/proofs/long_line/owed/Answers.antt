@@ -1,6 +1,0 @@
-use Rattle.devices.proofs.Pieces.{owes_rest}
-use Rattle.std.proofs.Common.{sym, ◌∙◌}
-use Rattle.devices.proofs.long_line.owed.Goals as goal
-
-pub returns-then-starts_with-clause-owed : goal.returns-then-starts_with-clause-owed
-returns-then-starts_with-clause-owed c = owes_rest _ _ _ _ c.if-prefix-least.true (sym c.starts_with.ensures.value ∙ c.if-starts_with.true)
