@@ -4,7 +4,7 @@ use Rattle.devices.specs.Reference.{line_feed}
 use Rattle.devices.specs.Devices.{Device, AppendsPrefix}
 use Rattle.std.proofs.Common.{◌≡◌, ◌≢◌, ◌⊎◌, inl, inr, ℕ, ◌+◌, ◌<◌, ◌≤◌, Bool, true, false, List, [], ◌∷◌, ◌++◌, length, map, take, drop, get_or, is_some, Option, Some, None, Result, Ok, Err, IfOk, IfErr, OnOk, MatchResult, refl, sym, ap, ap₂, ◌∙◌, subst, arith, decimal, append-nil}
 use Rattle.std.proofs.lemmas.Fmt.{length-decimal-le}
-use Rattle.std.proofs.lemmas.List.{append_assoc, length-append, map-append, take_more, take_all, take-append-drop}
+use Rattle.std.proofs.lemmas.List.{append_assoc, length-append, map-append, take_more, drop_more, take_all, take-append-drop}
 use Rattle.std.specs.Io.KnownBytes.{Appends}
 use Rattle.paths.specs.declared.file.File.{File}
 use Rattle.paths.specs.Snapshots.{last_line, text_before_end, snapshot_text, IsSnapshotText}
@@ -14,7 +14,6 @@ use Rattle.snapshots.specs.declared.write_fault.WriteFault.{WriteFault}
 use Rattle.snapshots.specs.declared.write_fault.WriteFault.TheVariants as rules
 use Rattle.snapshots.specs.Keeping.{a_file, broken_rule}
 use Rattle.snapshots.specs.Writers.{Took, refused_for}
-use Rattle.snapshots.proofs.Rulings.{keeps}
 use Rattle.snapshots.proofs.Taken.{whole}
 use Rattle.faults.specs.declared.fault.Fault.{Fault}
 use Rattle.faults.specs.declared.fault.Fault.TheVariants.{Open, Write, Memory}
@@ -23,7 +22,7 @@ use Rattle.runs.specs.declared.folder.Contents.{Contents}
 use Rattle.runs.specs.declared.folder.Found.{Found}
 use Rattle.faults.specs.declared.fault.Place.TheVariants.{Output}
 use Rattle.faults.specs.declared.fault.Place.TheVariants as places
-use Rattle.runs.specs.Folders.{Answering, AddsFile, AddsFound, Breaks, Cuts, CutsFile, CutsFound, IsOutputFault, IsRefused, IsSnapshotRunFault, IsTaken, LeavesOut, Names, Takes, WritesFolder, WritesFolderPrefix, name_of, names_taken, none_left_out, refusal, unwritten}
+use Rattle.runs.specs.Folders.{Answering, AddsFile, AddsFound, Breaks, Cuts, CutsFile, CutsFound, IsOutputFault, IsRefused, IsSnapshotRunFault, IsTaken, Names, Takes, WritesFolder, WritesFolderPrefix, name_of, names_taken, none_left_out, refusal, unwritten}
 
 -- ---- the first line and the last
 
@@ -178,13 +177,6 @@ stands_more answers found at skip whys (Some fault) before now new s next item l
   all = λ e. none_more found at item whys (Some fault) lt is (stands.all e) (only e);
 }
 
--- what is known of what was left out, at each moment
-pub left_out : (answers : Answering) (found : List Found) (at : ℕ) (skip : Bool) (whys : List (Option FileFault)) (before now : Option (List ℕ)) (s : FilesSoFar) → Stands answers found at skip whys before now s → LeavesOut answers found skip whys
-left_out answers found at skip whys before now s stands = (take at found, drop at found, stands.files, sym (take-append-drop at found), stands.takes, stands.all)
-
-pub none_out : (answers : Answering) (found : List Found) (skip : Bool) → LeavesOut answers found skip []
-none_out answers found skip = ([], found, [], refl, refl, λ e. refl)
-
 -- a list is its first items, one, and the rest
 parted : (found : List Found) (at : ℕ) (item : Found) → at < length found → item ≡ get_or found at item → found ≡ take at found ++ item ∷ drop (at + 1) found
 parted found at item lt is =
@@ -194,35 +186,35 @@ parted found at item lt is =
 
 -- ---- faults
 
-pub none_begun : (answers : Answering) (found : List Found) (skip : Bool) (old new : Option (List ℕ)) (f : Fault) → Cuts (text_before_end []) old new f → IsSnapshotRunFault answers found skip old new f
+pub none_begun : (answers : Answering) (found : List Found) (skip : Bool) (old new : Option (List ℕ)) (f : Fault) → Cuts (text_before_end []) old new f → IsSnapshotRunFault answers found skip [] old new f
 none_begun answers found skip old new f h =
-    inl (inl h.0, ([], found, [], [], refl, refl, no_files, prefix_first old new (text_before_end []) (last_line [] ++ line_feed ∷ []) h.1))
+    inl (inl h.0, ([], found, [], refl, refl, λ e. refl, no_files, inl (prefix_first old new (text_before_end []) (last_line [] ++ line_feed ∷ []) h.1)))
 
 -- out of memory between two files
-kept_prefix : (answers : Answering) (found : List Found) (at : ℕ) (whys : List (Option FileFault)) (old new : Option (List ℕ)) (files : List File) (s : FilesSoFar) (was : Option (List ℕ)) → Takes answers [] (take at found) files whys → Took files old was s
-    → Appends old new (text_before_end files) → WritesFolderPrefix answers found old new
-kept_prefix answers found at whys old new files s was takes took h = (
+kept_prefix : (answers : Answering) (found : List Found) (at : ℕ) (skip : Bool) (whys : List (Option FileFault)) (old now new was : Option (List ℕ)) (s next : FilesSoFar) → (stands : Stands answers found at skip whys old now s) → Took stands.files old was next
+    → Appends old new (text_before_end stands.files) → WritesFolderPrefix answers found skip whys old new
+kept_prefix answers found at skip whys old now new was s next stands took h = (
   take at found,
   drop at found,
-  files,
-  whys,
+  stands.files,
   sym (take-append-drop at found),
-  takes,
-  whole files old was s took,
-  prefix_first old new (text_before_end files) (last_line files ++ line_feed ∷ []) (prefix_all old new (text_before_end files) h),
+  stands.takes,
+  stands.all,
+  whole stands.files old was next took,
+  inl (prefix_first old new (text_before_end stands.files) (last_line stands.files ++ line_feed ∷ []) (prefix_all old new (text_before_end stands.files) h)),
 )
 
 cut_prefix : (answers : Answering) (found : List Found) (at : ℕ) (skip : Bool) (whys : List (Option FileFault)) (old now new : Option (List ℕ)) (s : FilesSoFar) (item : Found) (f : File) → at < length found → item ≡ get_or found at item
-    → (stands : Stands answers found at skip whys old now s) → IsTaken answers stands.files item f → AppendsPrefix old new (text_before_end (stands.files ++ f ∷ [])) → WritesFolderPrefix answers found old new
+    → (stands : Stands answers found at skip whys old now s) → IsTaken answers stands.files item f → AppendsPrefix old new (text_before_end (stands.files ++ f ∷ [])) → WritesFolderPrefix answers found skip whys old new
 cut_prefix answers found at skip whys old now new s item f lt is stands taken h = (
-  take at found ++ item ∷ [],
-  drop (at + 1) found,
-  stands.files ++ f ∷ [],
-  whys ++ None ∷ [],
-  parted found at item lt is ∙ sym (append_assoc (take at found) (item ∷ []) (drop (at + 1) found)),
-  takes_one answers [] (take at found) item stands.files whys f stands.takes taken,
-  keeps stands.files f (whole stands.files old now s stands.took) taken.1,
-  prefix_first old new (text_before_end (stands.files ++ f ∷ [])) (last_line (stands.files ++ f ∷ []) ++ line_feed ∷ []) h,
+  take at found,
+  drop at found,
+  stands.files,
+  sym (take-append-drop at found),
+  stands.takes,
+  stands.all,
+  whole stands.files old now s stands.took,
+  inr (item, drop (at + 1) found, f, drop_more found at item lt ∙ ap (λ (x : Found). x ∷ drop (at + 1) found) (sym is), taken, h),
 )
 
 cut_short : {reported : Fault} → (reported ≡ Memory) ⊎ (reported ≡ Open places.Folder) → IsOutputFault reported ⊎ (reported ≡ Open places.Folder)
@@ -230,20 +222,22 @@ cut_short (inl memory) = inl (inr memory)
 cut_short (inr opening) = inr opening
 
 pub stopped : (answers : Answering) (found : List Found) (at : ℕ) (skip : Bool) (whys : List (Option FileFault)) (old now new : Option (List ℕ)) (s : FilesSoFar) (item : Found) (reported : Fault) → at < length found → item ≡ get_or found at item
-    → (stands : Stands answers found at skip whys old now s) → CutsFound answers stands.files old item new reported → IsSnapshotRunFault answers found skip old new reported
+    → (stands : Stands answers found at skip whys old now s) → CutsFound answers stands.files old item new reported → IsSnapshotRunFault answers found skip whys old new reported
 stopped answers found at skip whys old now new s item reported lt is stands (inl h) = inl (inl (inl h.0), cut_prefix answers found at skip whys old now new s item h.1 lt is stands h.2 h.3)
-stopped answers found at skip whys old now new s item reported lt is stands (inr h) = inl (cut_short h.0, kept_prefix answers found at whys old new stands.files s now stands.takes stands.took h.1)
+stopped answers found at skip whys old now new s item reported lt is stands (inr h) = inl (cut_short h.0, kept_prefix answers found at skip whys old now new now s s stands stands.took h.1)
 
--- out of memory between two files
-pub lacking : (answers : Answering) (found : List Found) (at : ℕ) (skip : Bool) (whys : List (Option FileFault)) (old now : Option (List ℕ)) (s : FilesSoFar) (reported : Fault) → reported ≡ Memory
-    → Stands answers found at skip whys old now s → IsSnapshotRunFault answers found skip old now reported
-lacking answers found at skip whys old now s reported memory stands =
-    inl (inl (inr memory), kept_prefix answers found at whys old now stands.files s now stands.takes stands.took stands.took.text)
+-- out of memory for what became of one of what was found
+pub unnoted : (answers : Answering) (found : List Found) (at : ℕ) (skip : Bool) (whys : List (Option FileFault)) (why : Option FileFault) (old now new : Option (List ℕ)) (s next : FilesSoFar) (item : Found) → at < length found → item ≡ get_or found at item
+    → (stands : Stands answers found at skip whys old now s) → AddsFound answers stands.files old item why new next → IsSnapshotRunFault answers found skip whys old new Memory
+unnoted answers found at skip whys None old now new s next item lt is stands adds =
+    inl (inl (inr refl), cut_prefix answers found at skip whys old now new s item adds.0 lt is stands adds.1 (prefix_all old new (text_before_end (stands.files ++ adds.0 ∷ [])) adds.2.text))
+unnoted answers found at skip whys (Some fault) old now new s next item lt is stands adds =
+    inl (inl (inr refl), kept_prefix answers found at skip whys old now new new s next stands adds.1 adds.1.text)
 
 refused_first : (answers : Answering) (found : List Found) (at : ℕ) (skip : Bool) (whys : List (Option FileFault)) (old now new : Option (List ℕ)) (s next : FilesSoFar) (item : Found) (fault : FileFault) (reported : Fault) → at < length found → item ≡ get_or found at item → skip ≡ false
-    → (stands : Stands answers found at skip whys old now s) → AddsFound answers stands.files old item (Some fault) new next → Names (name_of item) fault reported → IsSnapshotRunFault answers found skip old new reported
+    → (stands : Stands answers found at skip whys old now s) → AddsFound answers stands.files old item (Some fault) new next → Names (name_of item) fault reported → IsSnapshotRunFault answers found skip whys old new reported
 refused_first answers found at skip whys old now new s next item fault reported lt is never stands adds (inl memory) =
-    inl (inl (inr memory), kept_prefix answers found at whys old new stands.files next new stands.takes adds.1 adds.1.text)
+    inl (inl (inr memory), kept_prefix answers found at skip whys old now new new s next stands adds.1 adds.1.text)
 refused_first answers found at skip whys old now new s next item fault reported lt is never stands adds (inr named) =
     inr (
       named.0,
@@ -255,7 +249,8 @@ refused_first answers found at skip whys old now new s next item fault reported 
         drop (at + 1) found,
         stands.files,
         parted found at item lt is,
-        subst (λ (ws : List (Option FileFault)). Takes answers [] (take at found) stands.files ws) (stands.all never) stands.takes,
+        stands.takes,
+        stands.all never,
         subst (λ (x : FileFault). IsRefused answers stands.files item x) (sym named.3) adds.0,
         named.2,
         adds.1.text,
@@ -264,7 +259,7 @@ refused_first answers found at skip whys old now new s next item fault reported 
 
 pub refused_now : (answers : Answering) (found : List Found) (at : ℕ) (skip : Bool) (whys : List (Option FileFault)) (why : Option FileFault) (old now new : Option (List ℕ)) (s next : FilesSoFar) (item : Found) (reported : Fault) → at < length found → item ≡ get_or found at item
     → (stands : Stands answers found at skip whys old now s) → AddsFound answers stands.files old item why new next → (skip ≡ false) × ((fault : FileFault) × (why ≡ Some fault) × Names (name_of item) fault reported)
-    → IsSnapshotRunFault answers found skip old new reported
+    → IsSnapshotRunFault answers found skip whys old new reported
 refused_now answers found at skip whys why old now new s next item reported lt is stands adds h =
     refused_first answers found at skip whys old now new s next item h.1.0 reported lt is h.0 stands (subst (λ (w : Option FileFault). AddsFound answers stands.files old item w new next) h.1.1 adds) h.1.2
 
@@ -281,7 +276,7 @@ ended answers found at skip whys old now new s (Ok done) le stands h =
 ended answers found at skip whys old now new s (Err f) le stands h = tt
 
 pub unended : (answers : Answering) (found : List Found) (at : ℕ) (skip : Bool) (whys : List (Option FileFault)) (old now new : Option (List ℕ)) (s : FilesSoFar) (r : Result Unit Fault) → length found ≤ at
-    → (stands : Stands answers found at skip whys old now s) → MatchResult r (λ done. Appends old new (snapshot_text stands.files)) (Cuts (snapshot_text stands.files) old new) → IfErr r (IsSnapshotRunFault answers found skip old new)
+    → (stands : Stands answers found at skip whys old now s) → MatchResult r (λ done. Appends old new (snapshot_text stands.files)) (Cuts (snapshot_text stands.files) old new) → IfErr r (IsSnapshotRunFault answers found skip whys old new)
 unended answers found at skip whys old now new s (Ok done) le stands h = tt
 unended answers found at skip whys old now new s (Err f) le stands h =
-    inl (inl h.0, (found, [], stands.files, whys, sym (append-nil found), all_taken answers found at stands.files whys le stands.takes, whole stands.files old now s stands.took, h.1))
+    inl (inl h.0, (found, [], stands.files, sym (append-nil found), all_taken answers found at stands.files whys le stands.takes, (λ e. stands.all e ∙ ap none_left_out (take_all at found le)), whole stands.files old now s stands.took, inl h.1))

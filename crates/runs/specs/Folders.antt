@@ -97,28 +97,31 @@ WritesFolder answers found skip whys old new = (files : List File) × Takes answ
     × IsSnapshotText (snapshot_text files) files
     × Appends old new (snapshot_text files)
 
--- this became of the first of what was found: nothing was left out where that isn't allowed
-abbrev pub LeavesOut : Answering → List Found → Bool → List (Option FileFault) → Type 0
-LeavesOut answers found skip whys = (first rest : List Found) × (files : List File)
-    × (found ≡ first ++ rest)
+-- a prefix was written of the snapshot of these files, or of these and of one more, which is found next
+abbrev pub WritesPrefix : Answering → List File → List Found → Option (List ℕ) → Option (List ℕ) → Type 0
+WritesPrefix answers files next old new = AppendsPrefix old new (snapshot_text files)
+    ⊎ ((one : Found) × (rest : List Found) × (f : File) × (next ≡ one ∷ rest) × IsTaken answers files one f
+    × AppendsPrefix old new (text_before_end (files ++ f ∷ [])))
+
+-- The run was cut short at one of what was found, or at the last line: `whys` is of all before it, of which nothing was
+-- left out where that isn't allowed, and a prefix was written of what was taken of them, and of that one.
+abbrev pub WritesFolderPrefix : Answering → List Found → Bool → List (Option FileFault) → Option (List ℕ)
+    → Option (List ℕ) → Type 0
+WritesFolderPrefix answers found skip whys old new = (first next : List Found) × (files : List File)
+    × (found ≡ first ++ next)
     × Takes answers [] first files whys
     × (skip ≡ false → whys ≡ none_left_out first)
-
--- a prefix was written of the snapshot of what was taken of the first of what was found
-abbrev pub WritesFolderPrefix : Answering → List Found → Option (List ℕ) → Option (List ℕ) → Type 0
-WritesFolderPrefix answers found old new = (first rest : List Found) × (files : List File)
-    × (whys : List (Option FileFault))
-    × (found ≡ first ++ rest)
-    × Takes answers [] first files whys
     × IsSnapshotText (snapshot_text files) files
-    × AppendsPrefix old new (snapshot_text files)
+    × WritesPrefix answers files next old new
 
 -- all before what can't be taken was taken, and stands there without a last line
-abbrev pub StopsBefore : Answering → List Found → Option (List ℕ) → Option (List ℕ) → List ℕ → FileFault → Type 0
-StopsBefore answers found old new name fault = (first : List Found) × (refused : Found) × (rest : List Found)
+abbrev pub StopsBefore : Answering → List Found → List (Option FileFault) → Option (List ℕ) → Option (List ℕ)
+    → List ℕ → FileFault → Type 0
+StopsBefore answers found whys old new name fault = (first : List Found) × (refused : Found) × (rest : List Found)
     × (files : List File)
     × (found ≡ first ++ refused ∷ rest)
-    × Takes answers [] first files (none_left_out first)
+    × Takes answers [] first files whys
+    × (whys ≡ none_left_out first)
     × IsRefused answers files refused fault
     × (name ≡ shown_name (name_of refused))
     × Appends old new (text_before_end files)
@@ -129,13 +132,13 @@ IsOutputFault f = (f ≡ Write Output) ⊎ (f ≡ Memory)
 
 -- What a fault of the run says, and none else comes: a prefix of what was due was written, where the output failed,
 -- there was no memory, or too many files were open; or the first of what can't be taken is named, where nothing may be
--- left out.
-abbrev pub IsSnapshotRunFault :
-    Answering → List Found → Bool → Option (List ℕ) → Option (List ℕ) → Fault → Type 0
-IsSnapshotRunFault answers found skip old new f =
-    ((IsOutputFault f ⊎ (f ≡ Open places.Folder)) × WritesFolderPrefix answers found old new)
+-- left out. `whys` is of all before the one at which it stopped.
+abbrev pub IsSnapshotRunFault : Answering → List Found → Bool → List (Option FileFault) → Option (List ℕ)
+    → Option (List ℕ) → Fault → Type 0
+IsSnapshotRunFault answers found skip whys old new f =
+    ((IsOutputFault f ⊎ (f ≡ Open places.Folder)) × WritesFolderPrefix answers found skip whys old new)
     ⊎ ((g : FolderFault) × (f ≡ Folder g) × (skip ≡ false)
-    × StopsBefore answers found old new g.name.items g.fault)
+    × StopsBefore answers found whys old new g.name.items g.fault)
 
 -- how often the output failed in a run that answered this fault
 abbrev pub output_failures : Fault → ℕ

@@ -8,7 +8,7 @@ ghost use Rattle.snapshots.specs.Writers.{Took};
 ghost use Rattle.std.specs.Io.KnownBytes.{Appends};
 ghost use Rattle.devices.specs.Devices.{CanFail, CountsBy};
 ghost use Rattle.runs.specs.Folders.{AddsFile, AddsFound, AfterTaking, Cuts, CutsFile, CutsFound, Names, refusal};
-ghost use Rattle.runs.specs.Folders.{IsSnapshotRunFault, LeavesOut, WritesFolder, name_of, output_failures};
+ghost use Rattle.runs.specs.Folders.{IsSnapshotRunFault, WritesFolder, name_of, output_failures};
 ghost use Rattle.runs.specs.Folders.{unwritten};
 
 use crate::folder::{Contents, Folder, Found};
@@ -147,7 +147,8 @@ fn refuse(alloc: Global, found: &Found, why: Option<FileFault>, skip: bool) -> R
 ///
 /// `Folder` with the first that can't be taken, where nothing is to be left out: the files before it stand, without a
 /// last line. `Write` of the output where it failed, `Memory`, and `Open` of the folder where it says nothing of a file
-/// since too many are open: a prefix stands. No other fault. `whys` has what became of the first of what was found.
+/// since too many are open: a prefix stands. No other fault. `whys` has what became of all before the one at which the
+/// run stopped.
 pub fn run_snapshot<F: Folder, W: Write>(
     alloc: Global,
     folder: &F,
@@ -159,9 +160,8 @@ pub fn run_snapshot<F: Folder, W: Write>(
     requires { CanFail output.old }
     ensures ok { OnOk result (WritesFolder
         (F.answers folder.now) found.now skip whys.new.items output.old.bytes output.new.bytes) }
-    ensures fault { IfErr result
-        (IsSnapshotRunFault (F.answers folder.now) found.now skip output.old.bytes output.new.bytes) }
-    ensures left { LeavesOut (F.answers folder.now) found.now skip whys.new.items }
+    ensures fault { IfErr result (IsSnapshotRunFault
+        (F.answers folder.now) found.now skip whys.new.items output.old.bytes output.new.bytes) }
     // The output is reported only where it failed in this call.
     ensures writes { CountsBy output_failures output.old.failures output.new.failures result }
 {
