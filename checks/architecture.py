@@ -3,9 +3,9 @@
 
     checks/architecture.py
 
-Its table of crates names each crate of crates.txt that holds no tests, with just the own crates that crates.txt gives
-it; and each file that a recipe ("To add ..") names is there, from the top or in a crate that the recipe names. Exits
-with 1 where something differs, with a line for each.
+Its table of crates names each crate of crates.txt that holds no tests, at its level, which is one above the highest of
+the own crates that crates.txt gives it; and each file that a recipe ("To add ..") names is there, from the top or in a
+crate that the recipe names. Exits with 1 where something differs, with a line for each.
 """
 import os
 import re
@@ -16,29 +16,31 @@ from lib.sources import TOP, read
 from lib.usage import parser_of
 import mutants
 
-ROW = re.compile(r"^\| `(\w+)` \| [^|]* \|([^|]*)\|", re.MULTILINE)
+ROW = re.compile(r"^\| (\d+) \| `(\w+)` \|", re.MULTILINE)
 FILE = re.compile(r"`((?:[\w*-]+/)*[\w*-]+\.(?:rt|antt|py|md))`")
 CRATE = re.compile(r"`crates/(\w+)")
 
 
 def crates():
-    """The crates of crates.txt that hold no tests, each with the own crates that it stands on."""
+    """The crates of crates.txt that hold no tests, each with its level."""
     _, own = mutants.crates()
-    return {name: others for name, others in own.items() if not name.endswith("_tests") and name != "test_support"}
+    levels = {}
+
+    def level(name):
+        if name not in levels:
+            levels[name] = 1 + max(map(level, own[name]), default=0)
+        return levels[name]
+
+    return {name: level(name) for name in own if not name.endswith("_tests") and name != "test_support"}
 
 
 def differences(page):
     """Where the table differs from crates.txt."""
     wanted = crates()
-    rows = {name: re.findall(r"`(\w+)`", others) for name, others in ROW.findall(page)}
-    for name in wanted:
-        if name not in rows:
-            yield "%s: no row" % name
-        elif sorted(rows[name]) != sorted(wanted[name]):
-            yield "%s: stands on %s, and the page says %s" % (name, sorted(wanted[name]), sorted(rows[name]))
-    for name in rows:
-        if name not in wanted:
-            yield "%s: a row, and no crate" % name
+    rows = {name: int(level) for level, name in ROW.findall(page)}
+    for name in sorted(wanted.keys() | rows.keys()):
+        if rows.get(name) != wanted.get(name):
+            yield "%s: its level is %s, and the page says %s" % (name, wanted.get(name), rows.get(name))
 
 
 def absent(page):

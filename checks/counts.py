@@ -81,6 +81,11 @@ def functions(text):
         yield found[2], len(ARGUMENT.findall(text[place:closed])), len(CLAUSE.findall(contract))
 
 
+def words(text):
+    """How many words a page has: what stands between spaces with a letter or a digit, so no bar of a table."""
+    return sum(any(map(str.isalnum, word)) for word in text.split())
+
+
 def large(texts):
     """The functions with more clauses or arguments than there should be."""
     for path, text in texts.items():
@@ -118,7 +123,7 @@ def main():
                           ("proofs", r"/proofs/.*\.antt$"), ("scripts", r"\.py$")):
         print("%6d lines of %s" % (sum(text.count("\n") for path, text in texts.items()
                                        if re.search(pattern, path)), what))
-    pages = {path: len(text.split()) for path, text in texts.items() if path.endswith(".md")}
+    pages = {path: words(text) for path, text in texts.items() if path.endswith(".md")}
     print("%6d words of pages: %s" % (sum(pages.values()), ", ".join(
         "%s %d" % it for it in sorted(pages.items(), key=lambda it: -it[1]) if it[1] > 300)))
     print("%6d functions with more than %d clauses or %d arguments" % (

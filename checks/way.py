@@ -16,7 +16,7 @@ import sys
 from lib.sources import TOP, read
 from lib.usage import parser_of
 
-STOP = re.compile(r"^    (?P<indent>(?:\. )*)(?:(?P<file>[\w/]+\.rt) )?(?P<function>\w+)$", re.MULTILINE)
+STOP = re.compile(r"^    (?P<indent>(?:  )*)(?:(?P<file>[\w/]+\.rt) )?(?P<function>\w+)$", re.MULTILINE)
 FUNCTION = r"^(?P<indent> *)(?:pub(?:\([a-z]+\))? )?fn %s\b.*?^(?P=indent)\}$"
 
 
