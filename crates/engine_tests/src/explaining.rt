@@ -2,7 +2,7 @@
 ghost use Rattle.std.specs.Prelude.{◌≡◌, ◌<◌, ◌-◌, ◌^◌};
 ghost use Rattle.devices.specs.Devices.{CanFail};
 
-use crate::replaying::{Ran, TEXT_ROOM, ran_to};
+use crate::replaying::{Ran, TEXT_CAPACITY, ran_to};
 use devices::{Input, Output};
 use paths::Snapshot;
 use replay::{Outcome, ReplayFault, Settings, explain_replay};
@@ -32,7 +32,7 @@ pub fn explain_devices<R: Read, W: Write>(
 
 /// Explains a capture against a snapshot, both as texts.
 pub fn explain(alloc: Global, snapshot: &str, settings: &Settings, capture: &str) -> Option<Ran> {
-    let mut text = Vec::with_capacity(alloc, TEXT_ROOM).ok()?;
+    let mut text = Vec::with_capacity(alloc, TEXT_CAPACITY).ok()?;
     let mut reader = Input::new(capture.as_bytes());
     let mut writer = Output::new(&mut text);
     let answer = explain_devices(alloc, snapshot, settings, &mut reader, &mut writer)?;

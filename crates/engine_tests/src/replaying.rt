@@ -200,7 +200,7 @@ pub fn run_devices<G: Gate + Sync, T: Threads + Wait + Sync, R: Read, W: Write>(
 }
 
 /// The capacity of a text in memory, in bytes.
-pub const TEXT_ROOM: usize = 4096;
+pub const TEXT_CAPACITY: usize = 4096;
 
 /// Replays a capture against a snapshot, both as texts.
 pub fn run_engine<G: Gate + Sync, T: Threads + Wait + Sync>(
@@ -213,7 +213,7 @@ pub fn run_engine<G: Gate + Sync, T: Threads + Wait + Sync>(
     capture: &[u8],
 ) -> Option<Ran> {
     // With room for the replies of a short capture, so that where memory is refused no write fails.
-    let mut text = Vec::with_capacity(alloc, TEXT_ROOM).ok()?;
+    let mut text = Vec::with_capacity(alloc, TEXT_CAPACITY).ok()?;
     let mut reader = Input::new(capture);
     let mut writer = Output::new(&mut text);
     let answer = run_devices(

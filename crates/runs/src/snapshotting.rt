@@ -140,8 +140,8 @@ fn refuse(alloc: Global, found: &Found, why: Option<FileFault>, skip: bool) -> R
 }
 
 /// Writes the snapshot of what was found in a folder, in the order given, which is to be that of the names' bytes. One
-/// file is in memory at a time. What can't be taken is a fault, or left out where that is asked for. `whys` is room: it
-/// gets for each of what was found why it was left out, or nothing where it was taken.
+/// file is in memory at a time. What can't be taken is a fault, or left out where that is asked for. `whys` is emptied,
+/// and gets for each of what was found why it was left out, or nothing where it was taken.
 ///
 /// # Errors
 ///

@@ -48,7 +48,7 @@ fn push_pieces(
     Ok(())
 }
 
-/// Reads one more record, and answers its slim records. `messages` is room for its messages.
+/// Reads one more record, and answers its slim records. `messages` is a buffer for its messages.
 fn slim_record(
     alloc: Global,
     next: &Record,
