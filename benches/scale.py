@@ -46,8 +46,8 @@ child = os.fork()
 if child == 0:
     os.execv(sys.argv[1], sys.argv[1:])
 _, status, used = os.wait4(child, 0)
-told = os.waitstatus_to_exitcode(status), used.ru_utime + used.ru_stime, used.ru_maxrss * 1024
-sys.stderr.write("\\n" + json.dumps(told))
+figures = os.waitstatus_to_exitcode(status), used.ru_utime + used.ru_stime, used.ru_maxrss * 1024
+sys.stderr.write("\\n" + json.dumps(figures))
 """
 
 
@@ -127,8 +127,8 @@ def run_of_day(words, count):
         ran = subprocess.run([sys.executable, "-c", RUNNER, *words], stdin=text.stdout, capture_output=True)
         text.stdout.close()
     passed = time.monotonic() - began
-    said, _, told = ran.stderr.decode().rpartition("\n")
-    status, worked, peak = json.loads(told)
+    said, _, figures = ran.stderr.decode().rpartition("\n")
+    status, worked, peak = json.loads(figures)
     if status or text.returncode or b"\nmessages %d\n" % count not in ran.stdout:
         sys.exit("%s: status %d, %s" % (" ".join(words), status, said.strip() or ran.stdout[:200]))
     return passed, worked, peak

@@ -187,10 +187,10 @@ def record(stack, folder, port):
     """Starts recording into a file of a folder."""
     path = os.path.join(folder, "packets.pcap")
     words = [path_of("tcpdump"), "-i", "lo", "-U", "-B", ROOM, "-w", "-", "tcp port %d" % port]
-    told = os.path.join(folder, "tcpdump.log")
-    with open(path, "wb") as packets, open(told, "wb") as log:
+    log_path = os.path.join(folder, "tcpdump.log")
+    with open(path, "wb") as packets, open(log_path, "wb") as log:
         process = stack.enter_context(running(words, stdout=packets, stderr=log))
-    if not is_soon(lambda: b"listening on" in contents(told), PATIENCE, process):
+    if not is_soon(lambda: b"listening on" in contents(log_path), PATIENCE, process):
         raise Skipped("tcpdump, with the right to record")
     return process, path
 
@@ -413,8 +413,8 @@ def check(program, count, chance, folder, stack):
     stop_recording(recording, packets)
     replies = replay(program, folder, packets, port, clients)
     comparison = Comparison()
-    for requests, client, told in zip(plan, clients, replies):
-        comparison.streams(requests, client.answer, told)
+    for requests, client, reply in zip(plan, clients, replies):
+        comparison.streams(requests, client.answer, reply)
     print("%d requests on %d connections, %d bytes, %d replies" % (
         sum(map(len, plan)), len(plan), sum(len(client.text) for client in clients), sum(map(len, replies))))
     return comparison

@@ -5,8 +5,8 @@ reference.py.
     checks/cut_inputs.py PROGRAM
 
 Captures with pipelined requests, a closing one, two connections, an end and a tier, and a traffic text with four lives
-of a number, each cut after each of its bytes: what is told is the first record that isn't whole, and what stands are
-the replies to the messages of those before it.
+of a number, each cut after each of its bytes: what is reported is the first record that isn't whole, and what stands
+are the replies to the messages of those before it.
 A snapshot cut after each of its bytes. And texts of requests (dates, bodies, faulty lengths, HTTP/1.0, HEAD, an empty
 file) in one piece, and in pieces of one byte at the same tick: the replies are the same. Exits with 1 where anything
 differs.

@@ -10,7 +10,7 @@ user's own tmpfs). With a C compiler (CC, or cc) besides: each read gives one by
 fails in turn, then each write, by an error and by an interruption; no more reads are made than buffers of the inputs'
 sizes need; and each thread in turn can't be started, in small batches and in large ones: with work for threads that cut
 pieces and for both floors, and for one floor alone. Each replay has to start as many as its settings ask for, none
-where each floor has one worker. (Whatever the machine has, the program is told of PROCESSORS processors.) What stands
+where each floor has one worker. (Whatever the machine has, the program sees PROCESSORS processors.) What stands
 at a device is always a prefix of what is right, all of it where the status is 0, and a file that is full has all that
 it may have.
 """
@@ -208,9 +208,9 @@ def run_poorly(program, replay, task, library, **poor):
         put(folder, {"in": task.given, "output": b"", "failed": b""})
         with open(os.path.join(folder, "in"), "rb") as given, open(os.path.join(folder, "out"), "wb") as out, \
                 open(os.path.join(folder, "failed"), "wb") as failed:
-            told = failed.fileno()
-            world = shim.world(library, **{"FAILED": told, "PROCESSORS": PROCESSORS, **poor})
-            how = {"env": world, "stdin": given, "stdout": out, "pass_fds": [told]}
+            descriptor = failed.fileno()
+            world = shim.world(library, **{"FAILED": descriptor, "PROCESSORS": PROCESSORS, **poor})
+            how = {"env": world, "stdin": given, "stdout": out, "pass_fds": [descriptor]}
             status, line, _ = run(program, task.words, folder, SECONDS, **how)
         return status, line, {name: contents(folder, name) for name in task.wanted}, contents(folder, "failed") != b""
 
@@ -228,12 +228,12 @@ def check_failing(report, program, replay, task, library, calls, error):
     while met:
         number += 1
         poor = {"READ_MOST": 256, "WRITE_MOST": 256, calls + "_FAILS": number, "ERROR": error}
-        status, told, got, met = run_poorly(program, replay, task, library, **poor)
-        whole = (status, told, got) == (0, b"", task.wanted)
-        refused = status == 6 and told.startswith(line) and is_prefix(task.wanted, got)
+        status, printed, got, met = run_poorly(program, replay, task, library, **poor)
+        whole = (status, printed, got) == (0, b"", task.wanted)
+        refused = status == 6 and printed.startswith(line) and is_prefix(task.wanted, got)
         good = whole if not met or number <= tried else refused
         name = "%s: %s %d fails by %s" % (task.name, calls, number, errno.errorcode[error])
-        report.see(name, good, (status, told, got))
+        report.see(name, good, (status, printed, got))
         met = met and status != HANGS
 
 
@@ -249,11 +249,11 @@ def check_threads(report, program, replay, task, library):
     number, met = 0, True
     while met:
         number += 1
-        status, told, got, met = run_poorly(program, replay, task, library, THREAD_FAILS=number)
-        whole = (status, told, got) == (0, b"", task.wanted)
-        refused = (status, told, got["out"]) == (*MEMORY, b"") and is_prefix(task.wanted, got)
+        status, printed, got, met = run_poorly(program, replay, task, library, THREAD_FAILS=number)
+        whole = (status, printed, got) == (0, b"", task.wanted)
+        refused = (status, printed, got["out"]) == (*MEMORY, b"") and is_prefix(task.wanted, got)
         name = "%s: thread %d can't be started" % (task.name, number)
-        report.see(name, whole or (met and refused), (status, told, got))
+        report.see(name, whole or (met and refused), (status, printed, got))
         met = met and status != HANGS
     return number - 1
 

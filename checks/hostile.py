@@ -119,8 +119,8 @@ class Limited(compare_replays.Comparison):
         files = compare_replays.replay_files(*texts)
         with tempfile.TemporaryDirectory() as folder:
             put(folder, files)
-            told, peak = run_measured(self.program, ["replay", *words, *options(*files)], folder, SECONDS)
-            status, line, report = told
+            ran, peak = run_measured(self.program, ["replay", *words, *options(*files)], folder, SECONDS)
+            status, line, report = ran
             replies = contents(folder, "replies")
         self.most = max(self.most, peak)
         above = b"(%d bytes of memory) " % peak if peak > MEMORY else b""
@@ -135,8 +135,8 @@ def main():
         status, *_ = comparison.replay_as_reference("seed %d" % seed, *texts)
         ends[status] = ends.get(status, 0) + 1
         comparison.explain("seed %d" % seed, *texts)
-    told = words.count, compare_replays.ends_text(ends), comparison.most >> 20
-    return comparison.end("%d damaged inputs (%s), %d MiB at most, {wrong} wrong" % told)
+    figures = words.count, compare_replays.ends_text(ends), comparison.most >> 20
+    return comparison.end("%d damaged inputs (%s), %d MiB at most, {wrong} wrong" % figures)
 
 
 if __name__ == "__main__":

@@ -181,9 +181,9 @@ def main():
     with tempfile.TemporaryDirectory() as folder:
         write_inputs(folder)
         for name, words, wanted, output, line in runs():
-            status, told, found = compare_run(program, folder, words, wanted, output)
-            good = told == line and status == (5 if line else 0) and set(found.values()) == {None}
-            seen.see_told(name, good, (status, told, found))
+            status, error, found = compare_run(program, folder, words, wanted, output)
+            good = error == line and status == (5 if line else 0) and set(found.values()) == {None}
+            seen.see_run(name, good, (status, error, found))
     return seen.end()
 
 

@@ -385,12 +385,12 @@ class Said:
     def of_proof(self, name):
         """What was said of a proof that the checker refuses."""
         *path, goal = name.split(".")
-        told = [it for it in self.errors if it[2] == goal and it[1] == "proofs/%s.antt" % "/".join(path)]
-        if any(LIMIT.search(it[3]) for it in told):
+        errors = [it for it in self.errors if it[2] == goal and it[1] == "proofs/%s.antt" % "/".join(path)]
+        if any(LIMIT.search(it[3]) for it in errors):
             return "limit"
-        if any("and the goal fails, at" in it[3] for it in told):
+        if any("and the goal fails, at" in it[3] for it in errors):
             return "values"
-        return UNKNOWN if not told else "name" if all(GONE.search(it[3]) for it in told) else "answer"
+        return UNKNOWN if not errors else "name" if all(GONE.search(it[3]) for it in errors) else "answer"
 
     def verdict(self, where):
         """The verdict on a mutant of these functions; on one that stands elsewhere, of all functions (None)."""

@@ -30,15 +30,15 @@ AGAIN = "commit what is there, run checks/package.py --record, and commit checks
 
 
 class Fault(Exception):
-    """Why it can't be told."""
+    """Why it isn't known."""
 
 
 def git(*words):
     """What git prints in this clone."""
-    told = subprocess.run(["git", "-C", TOP, "-c", "safe.directory=%s" % TOP, *words], capture_output=True, text=True)
-    if told.returncode:
-        raise Fault("git %s: %s" % (words[0], told.stderr.partition("\n")[0]))
-    return told.stdout.strip()
+    ran = subprocess.run(["git", "-C", TOP, "-c", "safe.directory=%s" % TOP, *words], capture_output=True, text=True)
+    if ran.returncode:
+        raise Fault("git %s: %s" % (words[0], ran.stderr.partition("\n")[0]))
+    return ran.stdout.strip()
 
 
 def contents(commit="HEAD"):

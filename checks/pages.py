@@ -26,7 +26,7 @@ OTHERS = set("""
     BufWriter DELAYED_DRY_RUN File::write_vectored O_NOFOLLOW OnceLock OpenOptionsExt REJECTED_DRY_RUN
     Write::write_vectored costs.toml custom_flags response_headers_to_add server_name
 """.split())
-# What was there once and is told of as gone stands in these pages.
+# What was there once and is named as gone stands in these pages.
 PAST = {"CHANGELOG.md"}
 
 

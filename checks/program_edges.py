@@ -52,7 +52,7 @@ def made(folder, plain=PLAIN):
             os.utime(path, (TIME, TIME))
 
 
-def told(fault):
+def ends(fault):
     """The status and the line of what can't be taken into a snapshot."""
     return (6 if fault.startswith(b"read:") else 4), b"haboob: " + fault + b"\n"
 
@@ -60,16 +60,16 @@ def told(fault):
 # A command for a shell between the listing and the reading, and then the status and the line; without a line the whole
 # snapshot stands in the output.
 BETWEEN = [
-    ("a file becomes a link to another", "ln -sf ../other/a tree/a", told(b"folder: Changed a")),
-    ("a file becomes a pipe", "rm tree/a; mkfifo tree/a", told(b"folder: Changed a")),
-    ("a file becomes a folder", "rm tree/a; mkdir tree/a", told(b"folder: Changed a")),
-    ("a file becomes another", "mv other/a tree/a", told(b"folder: Changed a")),
-    ("a file becomes a hard link of another", "ln -f other/a tree/a", told(b"folder: Changed a")),
-    ("a file goes away", "rm tree/a", told(b"read: folder a")),
-    ("a folder becomes a link to another", "mv tree/d d; ln -s ../other/d tree/d", told(b"folder: Changed d/b")),
-    ("a folder becomes another", "mv tree/d d; mv other/d tree/d", told(b"folder: Changed d/b")),
-    ("a folder becomes a pipe", "mv tree/d d; mkfifo tree/d", told(b"folder: Changed d/b")),
-    ("a folder goes away", "mv tree/d d", told(b"read: folder d/b")),
+    ("a file becomes a link to another", "ln -sf ../other/a tree/a", ends(b"folder: Changed a")),
+    ("a file becomes a pipe", "rm tree/a; mkfifo tree/a", ends(b"folder: Changed a")),
+    ("a file becomes a folder", "rm tree/a; mkdir tree/a", ends(b"folder: Changed a")),
+    ("a file becomes another", "mv other/a tree/a", ends(b"folder: Changed a")),
+    ("a file becomes a hard link of another", "ln -f other/a tree/a", ends(b"folder: Changed a")),
+    ("a file goes away", "rm tree/a", ends(b"read: folder a")),
+    ("a folder becomes a link to another", "mv tree/d d; ln -s ../other/d tree/d", ends(b"folder: Changed d/b")),
+    ("a folder becomes another", "mv tree/d d; mv other/d tree/d", ends(b"folder: Changed d/b")),
+    ("a folder becomes a pipe", "mv tree/d d; mkfifo tree/d", ends(b"folder: Changed d/b")),
+    ("a folder goes away", "mv tree/d d", ends(b"read: folder d/b")),
     ("the folder itself becomes a link to another", "mv tree kept; ln -s other tree", (0, b"")),
     ("nothing is changed", "true", (0, b"")),
 ]
@@ -117,28 +117,28 @@ def check_between(report, program):
         with tempfile.TemporaryDirectory() as folder:
             got = between(program, folder, command)
         good = got[:2] == wanted and SECRET not in got[2] and (wanted[0] != 0 or got[2] == WHOLE)
-        report.see_told("between: " + name, good, got)
+        report.see_run("between: " + name, good, got)
     with tempfile.TemporaryDirectory() as folder:
         got = between(program, folder, "ln -sf ../other/a tree/a; rm tree/z", ["--skip"])
     lines = b"haboob: folder: Changed a\nhaboob: read: folder z\nhaboob: skipped 2\n"
     wanted = 0, lines, snapshot_text([(b"d/b", b"second")])
-    report.see_told("between: two are left out", got == wanted, got)
+    report.see_run("between: two are left out", got == wanted, got)
 
 
 # When a command is run: before which opening of what has a path that ends so, or before the first read of it; and then
 # the command, the status and the line.
 AT_CALLS = [
-    ("a file becomes a link when it is opened", "/a", 1, False, "ln -sf ../other/a tree/a", told(b"folder: Changed a")),
-    ("a file becomes another", "/a", 1, False, "mv other/a tree/a", told(b"folder: Changed a")),
-    ("a file grows when it is read", "/a", 1, True, "printf x >>tree/a", told(b"folder: Changed a")),
-    ("a file shrinks", "/a", 1, True, "printf x >tree/a", told(b"folder: Changed a")),
-    ("a file is written anew", "/a", 1, True, "sleep 0.1; printf other >tree/a", told(b"folder: Changed a")),
+    ("a file becomes a link when it is opened", "/a", 1, False, "ln -sf ../other/a tree/a", ends(b"folder: Changed a")),
+    ("a file becomes another", "/a", 1, False, "mv other/a tree/a", ends(b"folder: Changed a")),
+    ("a file grows when it is read", "/a", 1, True, "printf x >>tree/a", ends(b"folder: Changed a")),
+    ("a file shrinks", "/a", 1, True, "printf x >tree/a", ends(b"folder: Changed a")),
+    ("a file is written anew", "/a", 1, True, "sleep 0.1; printf other >tree/a", ends(b"folder: Changed a")),
     ("a file is written anew, and gets its old time", "/a", 1, True,
-     "sleep 0.1; printf other >tree/a; touch -d @784111777 tree/a", told(b"folder: Changed a")),
+     "sleep 0.1; printf other >tree/a; touch -d @784111777 tree/a", ends(b"folder: Changed a")),
     ("a folder becomes a link when it is listed", "/d/", 1, False, "mv tree/d d; ln -s ../other/d tree/d",
-     told(b"folder: Changed d/")),
+     ends(b"folder: Changed d/")),
     ("a folder becomes a link when a file in it is opened", "/d/", 2, False, "mv tree/d d; ln -s ../other/d tree/d",
-     told(b"folder: Changed d/b")),
+     ends(b"folder: Changed d/b")),
 ]
 
 
@@ -152,9 +152,9 @@ ON_THE_WAY = [
     ("the folder above it becomes another", "/../", 2, "mv tree/d kept; mv other/d tree/d", (0, b"")),
     ("the folder above it becomes a link to another", "/../", 2, "mv tree/d kept; ln -s ../other/d tree/d", (0, b"")),
     ("a folder is put elsewhere, and the one above it becomes another", "/../", 2,
-     "mv tree/d/e kept; mv tree/d old; mv other/d tree/d", told(b"folder: Changed d/f/x")),
+     "mv tree/d/e kept; mv tree/d old; mv other/d tree/d", ends(b"folder: Changed d/f/x")),
     ("a folder is put elsewhere, and the one above it goes away", "/../", 2, "mv tree/d/e kept; mv tree/d old",
-     told(b"read: folder d/f/x")),
+     ends(b"read: folder d/f/x")),
 ]
 
 
@@ -175,14 +175,14 @@ def check_at_calls(report, program):
             with tempfile.TemporaryDirectory() as folder:
                 made(folder)
                 got = attacked(program, attacker, folder, path, opening, is_at_read, command)
-            report.see_told("at a call: " + name, got[:2] == wanted and SECRET not in got[2], got)
+            report.see_run("at a call: " + name, got[:2] == wanted and SECRET not in got[2], got)
         whole = snapshot_text(sorted(BELOW.items()))
         for name, path, opening, command, wanted in ON_THE_WAY:
             with tempfile.TemporaryDirectory() as folder:
                 made(folder, BELOW)
                 got = attacked(program, attacker, folder, path, opening, False, command)
             good = got[:2] == wanted and SECRET not in got[2] and (wanted[0] != 0 or got[2] == whole)
-            report.see_told("on the way: " + name, good, got)
+            report.see_run("on the way: " + name, good, got)
     return True
 
 
@@ -250,16 +250,16 @@ def check_unknown_lengths(report, program):
     with tempfile.TemporaryDirectory() as folder:
         words = ["snapshot", "--output", "output", "--folder", "/proc/sys/kernel/random"]
         got = (*run(program, words, folder)[:2], contents(folder, "output"))
-        report.see_told("a length of 0 with bytes", got == (*told(b"folder: Changed boot_id"), first_files([])), got)
+        report.see_run("a length of 0 with bytes", got == (*ends(b"folder: Changed boot_id"), first_files([])), got)
         status, lines, _ = run(program, [*words, "--skip"], folder)
         first, *_, last = lines.splitlines() or [b""]
         got = status, first, last[:16], contents(folder, "output")
         wanted = 0, b"haboob: folder: Changed boot_id", b"haboob: skipped ", snapshot_text([])
-        report.see_told("the same, skipped", got == wanted, got)
+        report.see_run("the same, skipped", got == wanted, got)
         made(folder)
         os.truncate(os.path.join(folder, "tree", "a"), 1 << 40)
         got = (*run(program, [*words[:-1], "tree"], folder)[:2], contents(folder, "output"))
-        report.see_told("a sparse file of a TiB", got == (*told(b"folder: Size a"), first_files([])), got)
+        report.see_run("a sparse file of a TiB", got == (*ends(b"folder: Size a"), first_files([])), got)
 
 
 REPLAY = ["replay", *GOOD, "--settings", "settings"]
@@ -297,12 +297,12 @@ def check_clashes(report, program):
     for name, words, line in CLASHES:
         with tempfile.TemporaryDirectory() as folder:
             got = clash(program, folder, name, words)
-        report.see_told("%s into %s" % (" ".join(words[:1]), name), got == (6, line, []), got)
+        report.see_run("%s into %s" % (" ".join(words[:1]), name), got == (6, line, []), got)
     with tempfile.TemporaryDirectory() as folder:
         got = clash(program, folder, "other", ["replay", *GOOD])
         texts = contents(folder, "replies"), contents(folder, "other")
     good = got == (0, b"", ["replies"]) and texts == (OPEN_REPLIES, OPEN_REPORT)
-    report.see_told("replay into another file", good, (*got, texts))
+    report.see_run("replay into another file", good, (*got, texts))
 
 
 LOCKED = [
@@ -331,10 +331,10 @@ def second_run(program, folder):
         while first.poll() is None and not has_open(first, replies):
             time.sleep(0.01)
         time.sleep(0.1)  # it locks its output once it has opened it
-        status, told, _ = run(program, words, folder)
+        status, error, _ = run(program, words, folder)
         pipe.write(FILES["capture"])
     text, line = first.communicate(timeout=SECONDS)
-    return (status, without_words(told)), (first.returncode, line, text, contents(replies))
+    return (status, without_words(error)), (first.returncode, line, text, contents(replies))
 
 
 def check_locked(report, program):
@@ -344,14 +344,14 @@ def check_locked(report, program):
             shell(program, folder, "cp output replies")
             with open(os.path.join(folder, name), "rb") as held:
                 fcntl.flock(held, fcntl.LOCK_EX)
-                status, told, _ = run(program, words, folder)
-            got = status, without_words(told), contents(folder, name)
-        report.see_told("an output that is locked: " + words[0], got == (6, line, OLD), got)
+                status, error, _ = run(program, words, folder)
+            got = status, without_words(error), contents(folder, name)
+        report.see_run("an output that is locked: " + words[0], got == (6, line, OLD), got)
     with tempfile.TemporaryDirectory() as folder:
         shell(program, folder, "cp output replies")
         got = second_run(program, folder)
     wanted = (6, b"haboob: open: replies\n"), (0, b"", OPEN_REPORT, OPEN_REPLIES)
-    report.see_told("two replays into one file", got == wanted, (*got[0], got[1]))
+    report.see_run("two replays into one file", got == wanted, (*got[0], got[1]))
 
 
 def shell(program, folder, command):
@@ -396,7 +396,7 @@ def check_limit(report, program):
             status, line, _ = run(program, ["replay", *GOOD], folder, restore_signals=is_default,
                                   preexec_fn=limit(resource.RLIMIT_FSIZE, LIMIT))
             got = status, line, contents(folder, "replies")
-        report.see_told("a limit of file size: " + name, got == (*wanted, OPEN_REPLIES[:LIMIT]), got)
+        report.see_run("a limit of file size: " + name, got == (*wanted, OPEN_REPLIES[:LIMIT]), got)
 
 
 # From the fewest open files with which a program is loaded to more than the program has at once.
@@ -407,8 +407,8 @@ NONE_LEFT_OUT = 0, b"haboob: skipped 0\n", WHOLE
 def is_cut(got):
     """Whether a run says that a folder or the output couldn't be opened, and wrote no more than a beginning."""
     status, line, text = got
-    is_told = line in (b"haboob: open: folder\n", b"haboob: open: output\n")
-    return status == 6 and is_told and (text == OLD or text != WHOLE and WHOLE.startswith(text))
+    is_reported = line in (b"haboob: open: folder\n", b"haboob: open: output\n")
+    return status == 6 and is_reported and (text == OLD or text != WHOLE and WHOLE.startswith(text))
 
 
 def check_descriptors(report, program):
@@ -417,10 +417,10 @@ def check_descriptors(report, program):
     for most in OPEN_FILES:
         with tempfile.TemporaryDirectory() as folder:
             shell(program, folder, "true")
-            status, told, _ = run(program, ["snapshot", "--folder", "tree", "--output", "output", "--skip"], folder,
+            status, error, _ = run(program, ["snapshot", "--folder", "tree", "--output", "output", "--skip"], folder,
                                   preexec_fn=limit(resource.RLIMIT_NOFILE, most))
-            every.append((status, without_words(told), contents(folder, "output")))
-        report.see_told("%d open files" % most, every[-1] == NONE_LEFT_OUT or is_cut(every[-1]), every[-1])
+            every.append((status, without_words(error), contents(folder, "output")))
+        report.see_run("%d open files" % most, every[-1] == NONE_LEFT_OUT or is_cut(every[-1]), every[-1])
     reading = [got for got in every if is_cut(got) and got[2] != OLD]
     report.see("open files: a fault at the listing, at a file", is_cut(every[0]) and reading, every)
     report.see("open files: enough", every[-1] == NONE_LEFT_OUT, every[-1])

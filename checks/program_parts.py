@@ -78,7 +78,7 @@ OLD = b"old replies\n"
 OLDEST = b"x" * 5000
 
 
-def is_told(text, wanted):
+def is_reported(text, wanted):
     """Whether this is the text wanted on standard error; None wants a longer one, of the command line."""
     return len(text) > 20 if wanted is None else text == wanted
 
@@ -104,11 +104,11 @@ def check_runs(report, program, runs):
     line (with its words for `settings` alone), replies and standard output."""
     for verb, name, words, status, line, replies, text in runs:
         files = {"replies": OLD, "other": OLD, **FILES}
-        ended, told, output, after = run_over(program, [verb, *words], files, beside("snapshot", "settings"))
-        told = told if verb == "settings" else without_words(told)
+        ended, error, output, after = run_over(program, [verb, *words], files, beside("snapshot", "settings"))
+        error = error if verb == "settings" else without_words(error)
         changed = [one for one, data in FILES.items() if after[one] != data]
-        good = (ended, after["replies"], output, changed) == (status, replies, text, []) and is_told(told, line)
-        report.see_told("%s: %s" % (verb, name), good, (ended, told, after["replies"], output, changed))
+        good = (ended, after["replies"], output, changed) == (status, replies, text, []) and is_reported(error, line)
+        report.see_run("%s: %s" % (verb, name), good, (ended, error, after["replies"], output, changed))
 
 
 def check_rewrites(report, program, verb, cases):
@@ -116,8 +116,8 @@ def check_rewrites(report, program, verb, cases):
     of it: status, line and output."""
     for name, capture, words, status, line, text in cases:
         files = {"output": OLDEST, "capture": capture}
-        ended, told, output, after = run_over(program, [verb, *words], files, beside("capture", "capture"))
-        told = without_words(told)
-        got = ended, told, after["output"], after["capture"], output
-        good = (ended, *got[2:]) == (status, text, capture, b"") and is_told(told, line)
-        report.see_told("%s: %s" % (verb, name), good, got)
+        ended, error, output, after = run_over(program, [verb, *words], files, beside("capture", "capture"))
+        error = without_words(error)
+        got = ended, error, after["output"], after["capture"], output
+        good = (ended, *got[2:]) == (status, text, capture, b"") and is_reported(error, line)
+        report.see_run("%s: %s" % (verb, name), good, got)

@@ -267,15 +267,15 @@ def check_progress(report, program):
         shown, terminal = pty.openpty()
         status, taken = left_alone(program, engine, terminal)
         os.close(terminal)
-        told = os.read(shown, 10_000)
+        printed = os.read(shown, 10_000)
         os.close(shown)
-        good = status == 0 and taken.endswith(b"stop 5000\n") and SHOWN.fullmatch(told)
-        report.see("progress on a terminal, " + engine, good, (status, told))
+        good = status == 0 and taken.endswith(b"stop 5000\n") and SHOWN.fullmatch(printed)
+        report.see("progress on a terminal, " + engine, good, (status, printed))
         with tempfile.TemporaryFile() as error:
             status, taken = left_alone(program, engine, error)
             error.seek(0)
-            told = error.read()
-        report.see("no progress in a file, " + engine, (status, told) == (0, b""), (status, told))
+            printed = error.read()
+        report.see("no progress in a file, " + engine, (status, printed) == (0, b""), (status, printed))
 
 
 def main():
@@ -289,14 +289,14 @@ def main():
     for name, given, data, taken, status, line, replies in rows:
         with tempfile.TemporaryDirectory() as folder:
             got = run_on(program, given, data, taken, folder)
-        report.see_told(name, got[:2] == (status, line) and replies in (None, got[2]), got)
+        report.see_run(name, got[:2] == (status, line) and replies in (None, got[2]), got)
     with open("/dev/full", "wb") as full:
         got = run(program, [], stderr=full)[0]
     report.see("an error that can't be written", got == 4, got)
     # no memory for the file that the snapshot announces
     announced = b"haboob-snapshot 1\nfile 0 1 16777216\na\n"
     got = run(program, [], input=announced, preexec_fn=limit(resource.RLIMIT_AS, MEMORY))
-    report.see_told("little memory", got == (7, b"haboob: memory\n", b""), got)
+    report.see_run("little memory", got == (7, b"haboob: memory\n", b""), got)
     check_progress(report, program)
     return report.end()
 

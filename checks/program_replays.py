@@ -18,7 +18,7 @@ from program_parts import (FILES, FIRST_LINE, GOOD, HEADING, OLD, OPEN_REPLIES, 
 
 SECONDS = 120  # that a run over a large text may take
 
-# What is told of one message more than a replay may have.
+# What is reported of one message more than a replay may have.
 TOO_MANY = 5, b"haboob: capture: message 1048576: TooMany\n", b""
 
 # The arguments after `replay`, in a folder with those files and a folder. Then the status, the line on standard error
@@ -198,7 +198,7 @@ def inspect_long(program, header):
 
 
 def too_many(program, engine):
-    """What is told of one message more than a capture may have; and whether as many as it may have are answered."""
+    """What is reported of one message more than a capture may have; and whether as many as it may have are answered."""
     capture = recording_text([(0, 0, REQUEST * 2048)] * 512 + [(0, 0, REQUEST)])
     with tempfile.TemporaryDirectory() as folder:
         put(folder, {"snapshot": SNAPSHOT, "capture": capture})
@@ -218,12 +218,12 @@ def main():
     for name, header, status, line, version, records, more, size in LONG_TEXTS:
         got = inspect_long(program, header)
         good = got == (status, line, long_inspection(version, records, more, size))
-        report.see_told("inspect: " + name, good, got)
+        report.see_run("inspect: " + name, good, got)
     with open("/dev/full", "wb") as full:
         status, line, _, after = run_over(program, ["replay", *GOOD, "--settings", "settings"], FILES, stdout=full)
     got = status, line, after["replies"]
     good = got == (6, b"haboob: write: report\n", TIGHT_REPLIES)
-    report.see_told("replay: a report into a full device", good, got)
+    report.see_run("replay: a report into a full device", good, got)
     for engine in ("plain", "staged"):
         got = report_of_controls(program, engine, ONE)
         good = got == (0, b"", controls_report(CONTROLS))
@@ -232,7 +232,7 @@ def main():
         good = got == (0, b"", controls_report(CONTROLS[-1000:]))
         report.see("replay: the last controls of a traffic text, " + engine, good, got)
         good, got = too_many(program, engine)
-        report.see_told("replay: too many messages, " + engine, good and got == TOO_MANY, got)
+        report.see_run("replay: too many messages, " + engine, good and got == TOO_MANY, got)
     return report.end()
 
 

@@ -80,31 +80,31 @@ COST_WORDS = (
 )
 
 
-def told(fault, words):
+def ends(fault, words):
     """The two lines of a fault: the line, and what is wrong in words."""
     return ("haboob: settings: %s\nhaboob: %s\n" % (fault, words)).encode()
 
 
 # Documents with a fault, each with its two lines.
 FAULTS = [
-    ("[policy]\nrate = 1000\n", told("Range policy.rate", RATE_WORDS)),
-    ("[tier1]\nrate_max = 1000000001\n", told("Range tier1.rate_max", RATE_MAX_WORDS)),
-    ("[floor]\nback_workers = [2]\n", told("Range floor.back", BACK_WORDS)),
-    ("costs = 1\n", told("Shape costs", "costs is to be a table")),
-    ("[[pool]]\nname = 'a'\nservers = 1\n" * 17, told("Range pool", POOL_WORDS)),
-    ("[[pool]]\nname = 'a'\nservers = 1\n" * 2, told("Range pool.name", NAME_WORDS)),
-    ("[[pool]]\nname = 'a'\nservers = 1\n", told("Range pool.name", NAME_WORDS)),
-    ("route = 1\n", told("Shape route", ROUTE_WORDS)),
-    ('[[route]]\nprefix = "/a"\ncost = 1\n' * 65, told("Range route", ROUTE_WORDS)),
-    ('[[route]]\nprefix = "a"\ncost = 1\n', told("Range route.prefix", PREFIX_WORDS)),
-    ('[[route]]\nprefix = "/a"\nkib = 1\n', told("Shape route.cost", COST_WORDS)),
-    ("rate = 1\n", told("Unknown", UNKNOWN_WORDS % ("rate", "policy.rate"))),
-    ("[tier2]\nrat = 1\n", told("Unknown", UNKNOWN_WORDS % ("tier2.rat", "tier2.rate"))),
-    ("[Policy]\nrate = 1\n", told("Unknown", UNKNOWN_WORDS % ("Policy", "policy"))),
+    ("[policy]\nrate = 1000\n", ends("Range policy.rate", RATE_WORDS)),
+    ("[tier1]\nrate_max = 1000000001\n", ends("Range tier1.rate_max", RATE_MAX_WORDS)),
+    ("[floor]\nback_workers = [2]\n", ends("Range floor.back", BACK_WORDS)),
+    ("costs = 1\n", ends("Shape costs", "costs is to be a table")),
+    ("[[pool]]\nname = 'a'\nservers = 1\n" * 17, ends("Range pool", POOL_WORDS)),
+    ("[[pool]]\nname = 'a'\nservers = 1\n" * 2, ends("Range pool.name", NAME_WORDS)),
+    ("[[pool]]\nname = 'a'\nservers = 1\n", ends("Range pool.name", NAME_WORDS)),
+    ("route = 1\n", ends("Shape route", ROUTE_WORDS)),
+    ('[[route]]\nprefix = "/a"\ncost = 1\n' * 65, ends("Range route", ROUTE_WORDS)),
+    ('[[route]]\nprefix = "a"\ncost = 1\n', ends("Range route.prefix", PREFIX_WORDS)),
+    ('[[route]]\nprefix = "/a"\nkib = 1\n', ends("Shape route.cost", COST_WORDS)),
+    ("rate = 1\n", ends("Unknown", UNKNOWN_WORDS % ("rate", "policy.rate"))),
+    ("[tier2]\nrat = 1\n", ends("Unknown", UNKNOWN_WORDS % ("tier2.rat", "tier2.rate"))),
+    ("[Policy]\nrate = 1\n", ends("Unknown", UNKNOWN_WORDS % ("Policy", "policy"))),
     # a name that would act on a terminal
     ('[page]\n"retry\\u001b[2Jafter" = 1\n',
-     told("Unknown", UNKNOWN_WORDS % ("page.retry?[2Jafter", "page.retry_after"))),
-    ("[policy\n", told("Text", NO_TOML)),
+     ends("Unknown", UNKNOWN_WORDS % ("page.retry?[2Jafter", "page.retry_after"))),
+    ("[policy\n", ends("Text", NO_TOML)),
 ]
 
 ABSENT_WORDS = b"haboob: absent: No such file or directory (os error 2)\n"
@@ -115,13 +115,13 @@ RUNS = [
     ("a document without keys", ["--settings", "empty"], 0, b"", OLD, DEFAULTS),
     ("a bucket of one token", ["--settings", "settings"], 0, b"", OLD, TIGHT_SETTINGS),
     ("a document of 65536 bytes", ["--settings", "longest"], 0, b"", OLD, TIGHT_SETTINGS),
-    ("a document of 65537 bytes", ["--settings", "too_long"], 3, told("Text", TOO_LONG), OLD, b""),
-    ("depth 0", ["--settings", "depth"], 3, told("Range policy.depth", DEPTH_WORDS), OLD, b""),
-    ("an unknown key", ["--settings", "unknown"], 3, told("Unknown", DEEP_WORDS), OLD, b""),
-    ("a capture", ["--settings", "capture"], 3, told("Text", NO_TOML), OLD, b""),
+    ("a document of 65537 bytes", ["--settings", "too_long"], 3, ends("Text", TOO_LONG), OLD, b""),
+    ("depth 0", ["--settings", "depth"], 3, ends("Range policy.depth", DEPTH_WORDS), OLD, b""),
+    ("an unknown key", ["--settings", "unknown"], 3, ends("Unknown", DEEP_WORDS), OLD, b""),
+    ("a capture", ["--settings", "capture"], 3, ends("Text", NO_TOML), OLD, b""),
     ("a file that isn't there", ["--settings", "absent"], 6, b"haboob: open: settings\n" + ABSENT_WORDS, OLD, b""),
     ("a folder", ["--settings", "folder"], 6, b"haboob: read: settings\n" + FOLDER_WORDS, OLD, b""),
-    ("a document without an end", ["--settings", "/dev/zero"], 3, told("Text", TOO_LONG), OLD, b""),
+    ("a document without an end", ["--settings", "/dev/zero"], 3, ends("Text", TOO_LONG), OLD, b""),
     ("a word more", ["settings"], 2, None, OLD, b""),
     ("help", ["--help"], 2, None, OLD, b""),
 ]
@@ -181,10 +181,10 @@ def main():
     check_runs(report, program, [("settings", *row) for row in RUNS])
     with open("/dev/full", "wb") as full:
         got = run(program, ["settings"], stdout=full)[:2]
-    report.see_told("settings: a full device", got == (6, b"haboob: write: report\n"), got)
+    report.see_run("settings: a full device", got == (6, b"haboob: write: report\n"), got)
     for document, lines in FAULTS:
         got = run_settings(program, document.encode())
-        report.see_told("settings: %r" % document, got == (3, lines, b""), got)
+        report.see_run("settings: %r" % document, got == (3, lines, b""), got)
     rows = list(page_rows())
     report.see("settings: the table of docs/FORMATS.md", is_page_right(rows), rows)
     for number, document in enumerate(READ_BACK):

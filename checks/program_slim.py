@@ -200,8 +200,8 @@ def secret_head(chance, secret, drops):
 
 def messages_told(program, capture):
     """How many messages an inspection tells."""
-    told = drawn.run_inspect(program, capture)[3]
-    return next(line for line in told.split(b"\n") if line.startswith(b"messages "))
+    figures = drawn.run_inspect(program, capture)[3]
+    return next(line for line in figures.split(b"\n") if line.startswith(b"messages "))
 
 
 def look_for_secret(program, report, words):

@@ -13,7 +13,7 @@ from lib.report import Report
 from lib.run import contents, put, run, without_words
 from lib.texts import TIME, snapshot_text
 from lib.usage import program_of
-from program_parts import CAPTURE, GOOD, OLDEST, OPEN_REPLIES, OPEN_REPORT, first_files, is_told
+from program_parts import CAPTURE, GOOD, OLDEST, OPEN_REPLIES, OPEN_REPORT, first_files, is_reported
 
 SECONDS = 60
 PIPE, SOCKET, FOLDER = "a pipe", "a socket", "a folder"
@@ -79,9 +79,9 @@ LINKS = {b"%03d" % number: Link(b"none") for number in range(150)}
 HIDDEN = "\u0085\u061c\u200e\u200f\u2028\u2029\u202a\u202e\u2066\u2069\ufeff\x9b\x7f\x1b".encode()
 
 
-def left_out(*told, more=0):
+def left_out(*faults, more=0):
     """What is said of what is left out: a line for each of the first hundred, as of its fault, and how many."""
-    return b"".join(b"haboob: %s\n" % line for line in told) + b"haboob: skipped %d\n" % (len(told) + more)
+    return b"".join(b"haboob: %s\n" % line for line in faults) + b"haboob: skipped %d\n" % (len(faults) + more)
 
 
 # What is in the folder, the words after `snapshot`, and then the status, the text on standard error (None: a text of
@@ -107,7 +107,7 @@ SNAPSHOTS = [
         left_out(b"folder: Link b", b"folder: Special c", b"folder: Special d", b"folder: Link e", b"folder: Link f/g"),
         snapshot_text([(b"a", b"1"), (b"z", b"2")]),
     ),
-    ("more links than are told, skipped", LINKS, SKIP, 0,
+    ("more links than are listed, skipped", LINKS, SKIP, 0,
      left_out(*(b"folder: Link %03d" % number for number in range(100)), more=50), snapshot_text([])),
     ("a pipe", {b"a": b"1", b"c/d": PIPE}, TREE, 4, b"haboob: folder: Special c/d\n", first_files([(b"a", b"1")])),
     ("a socket", {b"c": SOCKET}, TREE, 4, b"haboob: folder: Special c\n", first_files([])),
@@ -125,7 +125,7 @@ SNAPSHOTS = [
      snapshot_text([(b"a", b"2")])),
     ("folders that are too deep", {b"a": b"2", DEEP: FOLDER}, SKIP, 0,
      left_out(b"folder: Name %s" % (5 * (b"d" * 250 + b"/"))), snapshot_text([(b"a", b"2")])),
-    ("the same, told by the first that is too long", {b"a": b"2", DEEP: FOLDER}, TREE, 4,
+    ("the same, reported by the first that is too long", {b"a": b"2", DEEP: FOLDER}, TREE, 4,
      b"haboob: folder: Name %s\n" % (5 * (b"d" * 250 + b"/")), first_files([(b"a", b"2")])),
     ("a file of 16 MiB", {b"a": Sparse(16_777_216)}, TREE, 0, b"", snapshot_text([(b"a", bytes(16_777_216))])),
     ("a file of a byte more", {b"a": b"1", b"b": Sparse(16_777_217), b"c": b"2"}, TREE, 4, b"haboob: folder: Size b\n",
@@ -280,13 +280,14 @@ def output_inside(program, skip):
 
 
 def many_files(program):
-    """One file more than a snapshot may have is told, or left out."""
+    """One file more than a snapshot may have is reported, or left out."""
     with folder_with({b"%05d" % number: b"" for number in range(65_537)}) as folder:
-        told = command(program, ["snapshot", *TREE], folder)
+        refused = command(program, ["snapshot", *TREE], folder)
         skipped = command(program, ["snapshot", *SKIP], folder)
         text = contents(folder, "output")
     want = snapshot_text([(b"%05d" % number, b"") for number in range(65_536)])
-    return (told, skipped, text) == ((4, b"haboob: folder: Count 65536\n"), (0, left_out(b"folder: Count 65536")), want)
+    wanted = (4, b"haboob: folder: Count 65536\n"), (0, left_out(b"folder: Count 65536")), want
+    return (refused, skipped, text) == wanted
 
 
 def round_trip(program):
@@ -307,8 +308,8 @@ def main():
             os.chmod(path, 0o755)
         for name, tree, words, status, line, output in SNAPSHOTS:
             got = snapshot(alone, tree, words)
-            good = (got[0], got[2]) == (status, output) and is_told(got[1], line)
-            report.see_told("snapshot: " + name, good, (*got[:2], got[2][:2000]))
+            good = (got[0], got[2]) == (status, output) and is_reported(got[1], line)
+            report.see_run("snapshot: " + name, good, (*got[:2], got[2][:2000]))
         report.see("snapshot: an output in the folder", output_inside(alone, False), False)
         report.see("snapshot: an output in the folder, and skip", output_inside(alone, True), False)
         report.see("snapshot: too many files", many_files(alone), False)

@@ -1,8 +1,8 @@
 #!/usr/bin/env python3
 """Runs each command of the program with words that are no text, with words that hold characters which act on a
 terminal, with formats and speeds that there aren't, and with inputs that aren't there: the first that is absent is
-told, in the order settings, snapshot, capture, and no new output stays behind. Compares the words that follow the line
-of a fault: of a file that can't be opened, written or read, and of one that looks like something else.
+reported, in the order settings, snapshot, capture, and no new output stays behind. Compares the words that follow the
+line of a fault: of a file that can't be opened, written or read, and of one that looks like something else.
 """
 import bz2
 import fcntl
@@ -50,7 +50,7 @@ WRONG_FORMATS = ["1", "3", "02", "2 ", "Traffic", "traffi", "traffic 1", "haboob
 # What `--speed` of a replay and of a table doesn't take.
 WRONG_SPEEDS = ["99", "10001", "0", "0100", "+100", "1e3", "100.0", "200%", "", " 200", "-200", "18446744073709551816"]
 
-# The inputs of each command, in the order in which they are told, and its output.
+# The inputs of each command, in the order in which they are reported, and its output.
 COMMANDS = [
     ("replay", ["settings", "snapshot", "capture"], "replies"),
     ("explain", ["settings", "snapshot", "capture"], "messages"),
@@ -108,14 +108,14 @@ def check_looks(report, program):
             heading = b"capture: record" if kind == "capture" else b"snapshot: entry"
             fault = b"Header" if data else b"Cut"
             wanted = 5 - (kind == "snapshot"), b"haboob: %s 0: %s\n" % (heading, fault) + words_on(name, what)
-            report.see_told("%s as a %s, %s" % (name, kind, engine), got == wanted, got)
+            report.see_run("%s as a %s, %s" % (name, kind, engine), got == wanted, got)
     for verb in (["inspect"], ["upgrade", "--output", "new"], ["slim", "--output", "new"]):
         for name, wanted in (("snapshot", b"capture: record 0: Header"), ("folder", b"read: capture")):
             got = run_beside(program, [*verb, "--capture", name])[:2]
             what = b"it looks like a snapshot" if name == "snapshot" else b"it is a folder"
             status = 5 if name == "snapshot" else 6
             wanted = status, b"haboob: %s\n" % wanted + words_on(name, what)
-            report.see_told("%s of a %s" % (verb[0], name), got == wanted, got)
+            report.see_run("%s of a %s" % (verb[0], name), got == wanted, got)
 
 
 def check_refused(report, program):
@@ -130,20 +130,20 @@ def check_refused(report, program):
     ):
         got = run_beside(program, words)[:2]
         wanted = 6, b"haboob: open: %s\n" % role + words_on(name, what)
-        report.see_told("refused: " + " ".join(words), got == wanted, got)
+        report.see_run("refused: " + " ".join(words), got == wanted, got)
     with tempfile.TemporaryDirectory() as folder:
         path = os.path.join(folder, "capture")
         put(folder, {"capture": FILES["capture"]})
         with open(path, "ab") as out:
             got = run(program, inspect, folder, stdout=out)[:2]
         wanted = 6, b"haboob: open: report\nhaboob: standard output: it is an input too\n"
-        report.see_told("refused: a report into the capture", got == wanted, got)
+        report.see_run("refused: a report into the capture", got == wanted, got)
         with open(path, "rb") as held:
             fcntl.flock(held, fcntl.LOCK_EX)
             shutil.copy(path, path + " too")
             got = run(program, ["upgrade", "--capture", "capture too", "--output", "capture"], folder)[:2]
         wanted = 6, b"haboob: open: output\n" + words_on("capture", b"another run is writing it")
-        report.see_told("refused: what another run writes", got == wanted, got)
+        report.see_run("refused: what another run writes", got == wanted, got)
 
 
 TWICE = b"standard input is another input already"
@@ -177,9 +177,9 @@ def run_dashes(program, words, given, written):
     """Status, standard error and what was written, of a run from and to pipes; the same of one over files."""
     outputs = []
     for one in (words, without_dashes(words, given)):
-        told = run_over(program, one, FILES, a_folder, input=FILES.get(given, b""))
+        ran = run_over(program, one, FILES, a_folder, input=FILES.get(given, b""))
         name = written or ("made" if "made" in one else None)
-        outputs.append((*told[:2], told[3].get(name, b"") if name in one else told[2]))
+        outputs.append((*ran[:2], ran[3].get(name, b"") if name in one else ran[2]))
     return outputs
 
 
@@ -193,21 +193,22 @@ def check_dashes(report, program):
     """`-` is standard input and standard output."""
     for words, given, written in DASHES:
         got, wanted = run_dashes(program, words, given, written)
-        report.see_told(" ".join(words[:5]), got == wanted and got[0] == 0 and got[2] != b"", (*got[:2], got, wanted))
+        good = got == wanted and got[0] == 0 and got[2] != b""
+        report.see_run(" ".join(words[:5]), good, (*got[:2], got, wanted))
     for words, role, what in WRONG_DASHES:
         got = run_beside(program, words)[:2]
-        report.see_told(" ".join(words[:7]), got == (6, b"haboob: open: %s\n" % role + words_on("-", what)), got)
+        report.see_run(" ".join(words[:7]), got == (6, b"haboob: open: %s\n" % role + words_on("-", what)), got)
     with tempfile.TemporaryDirectory() as folder:
         put(folder, {"kept": b"before\n", "capture": FILES["capture"]})
         upgrade = ["upgrade", "--capture", "capture", "--output", "-"]
         with open(os.path.join(folder, "kept"), "ab") as out:
             got = run(program, upgrade, folder, stdout=out)[:2]
         good = got == (0, b"") and contents(folder, "kept").startswith(b"before\nhaboob-capture 2 ")
-        report.see_told("an output that is appended to", good, got)
+        report.see_run("an output that is appended to", good, got)
         with open(os.path.join(folder, "capture"), "ab") as out:
             got = run(program, upgrade, folder, stdout=out)[:2]
         wanted = 6, b"haboob: open: output\nhaboob: standard output: it is an input too\n"
-        report.see_told("an output that is the input", got == wanted, got)
+        report.see_run("an output that is the input", got == wanted, got)
 
 
 def a_folder(folder):
@@ -218,8 +219,8 @@ def a_folder(folder):
 
 def run_beside(program, words):
     """Status, standard error and standard output of a run beside files and an empty folder, and what is new there."""
-    *told, after = run_over(program, words, FILES, lambda folder: os.mkdir(os.path.join(folder, "folder")))
-    return (*told, set(after) - {*FILES, "folder"})
+    *ran, after = run_over(program, words, FILES, lambda folder: os.mkdir(os.path.join(folder, "folder")))
+    return (*ran, set(after) - {*FILES, "folder"})
 
 
 def tells_shown(program, words, character):
@@ -244,25 +245,25 @@ def main():
     program, report = program_of(__doc__), Report()
     for words in ODD_WORDS:
         got = run_beside(program, words)
-        report.see_told("no text: %r" % words[-1], got == (2, NOT_TEXT, b"", set()), got)
+        report.see_run("no text: %r" % words[-1], got == (2, NOT_TEXT, b"", set()), got)
     for number, character in enumerate(HIDDEN):
         words = WRONG_WORDS[number % len(WRONG_WORDS)]
         good, got = tells_shown(program, words, character)
-        report.see_told("shown: U+%04X in %s" % (ord(character), " ".join(words)), good, got)
+        report.see_run("shown: U+%04X in %s" % (ord(character), " ".join(words)), good, got)
     for word in WRONG_FORMATS:
         for capture in ("capture", "absent"):
             got = run_beside(program, ["upgrade", "--capture", capture, "--output", "new", "--to=" + word])
             wanted = 2, b"haboob: format\nhaboob: the format is to be 2 or traffic\n", b"", set()
-            report.see_told("upgrade to %r of %s" % (word, capture), got == wanted, got)
+            report.see_run("upgrade to %r of %s" % (word, capture), got == wanted, got)
     for (verb, inputs, output), word in itertools.product(COMMANDS[:2], WRONG_SPEEDS):
         got = run_beside(program, words_of(verb, inputs, output, ("capture",)) + ["--speed=" + word])
-        report.see_told("%s at %r" % (verb, word), got == (2, b"haboob: speed\n" + SPEED, b"", set()), got)
+        report.see_run("%s at %r" % (verb, word), got == (2, b"haboob: speed\n" + SPEED, b"", set()), got)
     for verb, inputs, output in COMMANDS:
         for count in range(1, len(inputs) + 1):
             for absent in itertools.combinations(inputs, count):
                 got = run_beside(program, words_of(verb, inputs, output, absent))
                 wanted = 6, b"haboob: open: %s\n" % absent[0].encode() + words_on("absent", ABSENT), b"", set()
-                report.see_told("%s: without %s" % (verb, ", ".join(absent)), got == wanted, got)
+                report.see_run("%s: without %s" % (verb, ", ".join(absent)), got == wanted, got)
     check_looks(report, program)
     check_refused(report, program)
     check_dashes(report, program)

@@ -161,12 +161,12 @@ def absent(page):
     tests, known = named(), clauses()
     for place, row in promises(page).items():
         yield from ("%s/%s: %s" % (*place, what) for what in absent_clauses(row["clause"], known))
-        told = REMARK.sub("", row["tests"])
-        for test in filter(None, map(str.strip, re.split("[,;]", told))):
+        cited = REMARK.sub("", row["tests"])
+        for test in filter(None, map(str.strip, re.split("[,;]", cited))):
             found = TEST.match(test)
             if found and found[1] not in tests:
                 yield "%s/%s: no test %s" % (*place, test)
-        yield from ("%s/%s: %s" % (*place, what) for what in absent_scripts(told, tests, lambda *_: True))
+        yield from ("%s/%s: %s" % (*place, what) for what in absent_scripts(cited, tests, lambda *_: True))
     for number, line in enumerate(page.split("\n"), 1):
         if line.startswith(ALONE):
             yield from ("line %d: %s" % (number, what) for what in absent_scripts(line, tests, is_test_of_line))

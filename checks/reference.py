@@ -904,8 +904,8 @@ def report_text(form, arrived, statuses, admission):
         listed = list(enumerate(controls, 1))[-CONTROLS_SHOWN:] if form.again else enumerate(controls, 1)
         lines += ["control %d %d %d %d %d" % (place, *control) for place, control in listed]
     if len(admission.figures) > 1:
-        told = enumerate(admission.figures)
-        lines += ["pool %d %d %d %d" % (number, len(pool.starts), pool.busy, pool.longest) for number, pool in told]
+        pools = enumerate(admission.figures)
+        lines += ["pool %d %d %d %d" % (number, len(pool.starts), pool.busy, pool.longest) for number, pool in pools]
     lines += ["reject %d" % number for number in rejected]
     return "".join(line + "\n" for line in lines + ["end"]).encode()
 
@@ -1089,9 +1089,9 @@ def tell_replies(files, settings, start, arrived, admission, fault):
 
 def tell_rows(files, settings, start, arrived, admission, fault):
     """The statuses of the messages, and the table of decisions."""
-    told = list(rows(files, settings, arrived, admission))
-    lines = [HEADING % ("pool," if settings["pool"] else "")] + [row for _, row in told]
-    return [status for status, _ in told], "".join(line + "\n" for line in lines).encode()
+    table = list(rows(files, settings, arrived, admission))
+    lines = [HEADING % ("pool," if settings["pool"] else "")] + [row for _, row in table]
+    return [status for status, _ in table], "".join(line + "\n" for line in lines).encode()
 
 
 def faster(arrived, speed):
@@ -1100,7 +1100,7 @@ def faster(arrived, speed):
 
 
 def run(tell, snapshot, capture, settings, speed):
-    """Status, line of a fault, what is told (None where the file stays as it was) and report (docs/FORMATS.md)."""
+    """Status, line of a fault, what is written (None where the file stays as it was) and report (docs/FORMATS.md)."""
     text = None
     try:
         settings = read_settings(settings)
@@ -1131,9 +1131,9 @@ def explain(snapshot, capture, settings=b"", speed=100):
 
 def main():
     parser = parser_of(__doc__, runs_program=False)
-    told = parser.add_mutually_exclusive_group()
-    told.add_argument("--replies", help="the file that the replies are written to")
-    told.add_argument("--messages", help="the file that the table of decisions is written to")
+    written = parser.add_mutually_exclusive_group()
+    written.add_argument("--replies", help="the file that the replies are written to")
+    written.add_argument("--messages", help="the file that the table of decisions is written to")
     parser.add_argument("--speed", type=int, default=100, metavar="PERCENT")
     parser.add_argument("snapshot")
     parser.add_argument("capture")

@@ -34,12 +34,12 @@ static int is_refused(void)
 {
     const char *at = getenv("REFUSE_AT");
     const char *times = getenv("REFUSE_TIMES");
-    const char *told = getenv("REFUSED");
+    const char *refused = getenv("REFUSED");
     long number = atomic_fetch_add(requests, 1) + 1;
-    if (at == NULL || told == NULL || number < atol(at) || number >= atol(at) + (times ? atol(times) : 1)) {
+    if (at == NULL || refused == NULL || number < atol(at) || number >= atol(at) + (times ? atol(times) : 1)) {
         return 0;
     }
-    (void)!write(atoi(told), "x", 1);
+    (void)!write(atoi(refused), "x", 1);
     errno = ENOMEM;
     return 1;
 }

@@ -68,7 +68,7 @@ class Ending:
     def __init__(self, ran, written):
         self.status, line, self.output = ran
         self.written = written
-        # where there is no memory for the words, a fault's line alone is told
+        # where there is no memory for the words, a fault's line alone is written
         self.line = without_words(line)
 
     def is_same(self, other):
@@ -78,9 +78,9 @@ class Ending:
         """Whether it says that memory ran out, with a prefix of what was due: in the output, and of the lines that a
         run without a fault writes on standard error (of the names that are left out)."""
         *before, last = self.line.splitlines(keepends=True) or [b""]
-        told = b"".join(before)
+        earlier = b"".join(before)
         said = (self.status, last) == (7, b"haboob: memory\n") and (
-            not told or ample.status == 0 and ample.line.startswith(told)
+            not earlier or ample.status == 0 and ample.line.startswith(earlier)
         )
         whole = self.output == b"" if has_words else ample.output.startswith(self.output)
         return said and whole and ample.written.startswith(self.written)

@@ -70,7 +70,7 @@ class Copy:
         """The crates that were proved, in their order."""
         return (self.tools / "runs").read_text().split()
 
-    def told(self, program=None):
+    def proof(self, program=None):
         """What a package would say of the program, which is newer than all sources."""
         os.utime(self.program, (2**31, 2**31))
         spec = importlib.util.spec_from_file_location("packaging_build", self.top / "packaging" / "build.py")
@@ -85,54 +85,54 @@ def copy(tmp_path):
 
 
 def test_a_proved_program(copy):
-    assert PROVED in copy.told()
+    assert PROVED in copy.proof()
     another = copy.top.parent / "another"
     shutil.copy(copy.program, another)
-    assert PROVED in copy.told(another)
+    assert PROVED in copy.proof(another)
 
 
 def test_one_that_nothing_proved(copy):
     copy.program.write_text("another")
-    assert GIVEN in copy.told()
+    assert GIVEN in copy.proof()
 
 
 def test_one_without_a_record(copy):
     """As `rt ci` builds it."""
     copy.program.with_name("haboob.proved").unlink()
-    assert GIVEN in copy.told()
+    assert GIVEN in copy.proof()
 
 
 @pytest.mark.parametrize("text", ["", "\n", "program", "program a\nsources b\n", "\0\n"])
 def test_a_record_that_is_none(copy, text):
     copy.program.with_name("haboob.proved").write_text(text)
-    assert GIVEN in copy.told()
+    assert GIVEN in copy.proof()
 
 
 @pytest.mark.parametrize("name", ["crates/low/src/lib.rt", "crates/low/specs/Low.antt", "crates/low/proofs/Low.antt",
                                   "crates/haboob/src/main.rt", "crates/low/src/new.rt", "HANDLES"])
 def test_other_sources(copy, name):
     copy.put(copy.top / name, "changed")
-    assert GIVEN in copy.told()
+    assert GIVEN in copy.proof()
 
 
 def test_other_rows(copy):
     rows = copy.top / "crates.txt"
     rows.write_text(rows.read_text().replace("other: low\n", "other: low thiserror\n"))
     copy.put(copy.top / "crates" / "other" / "src" / "lib.rt", "changed")
-    assert PROVED in copy.told()  # nothing of it stands below the program
+    assert PROVED in copy.proof()  # nothing of it stands below the program
     rows.write_text(rows.read_text().replace("haboob: low\n", "haboob: low thiserror\n"))
-    assert GIVEN in copy.told()
+    assert GIVEN in copy.proof()
 
 
 @pytest.mark.parametrize("name", ["crates/low/src/lib.rt", "crates/haboob/src/main.rt"])
 def test_a_proof_that_fails(copy, name):
-    """The older program stays, and isn't told as one of the sources that are here."""
+    """The older program stays, and isn't described as one of the sources that are here."""
     copy.put(copy.top / name, "wrong")
     status, said = copy.build()
     assert status == 1 and "can't be proved" in said
-    assert copy.program.read_text() == "main" and GIVEN in copy.told()
+    assert copy.program.read_text() == "main" and GIVEN in copy.proof()
     copy.put(copy.top / name, "right")
-    assert copy.build() == (0, "") and PROVED in copy.told()
+    assert copy.build() == (0, "") and PROVED in copy.proof()
 
 
 def test_nothing_changed(copy):
@@ -140,4 +140,4 @@ def test_nothing_changed(copy):
     assert copy.runs() == ["low", "haboob"] and copy.build() == (0, "")
     assert copy.runs()[2:] == ["low"]
     copy.program.write_text("another")
-    assert copy.build() == (0, "") and copy.program.read_text() == "main" and PROVED in copy.told()
+    assert copy.build() == (0, "") and copy.program.read_text() == "main" and PROVED in copy.proof()

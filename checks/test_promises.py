@@ -50,8 +50,8 @@ def test_as_it_stands():
 @pytest.mark.parametrize("old, new, said", WRONG, ids=[row[2] for row in WRONG])
 def test_wrong(old, new, said):
     assert PAGE.count(old) == 1
-    told = list(promises.absent(PAGE.replace(old, new)))
-    assert len(told) == 1 and told[0].endswith(": " + said)
+    found = list(promises.absent(PAGE.replace(old, new)))
+    assert len(found) == 1 and found[0].endswith(": " + said)
 
 
 def test_right():

@@ -154,7 +154,7 @@ def test_right(texts, path, old, new):
 
 
 def test_lists(texts):
-    """What is listed and isn't there is told."""
+    """What is listed and isn't there is reported."""
     first = "        if number >= MOST {\n            return Err(AllocError);\n"
     new = judged(texts, "stage_graph/src/notes.rt", first, first.replace("return Err(AllocError);", "self.add(1);"))
     assert new == ["stage_graph/src/notes.rt: note: return Err(AllocError);: listed, and not there"]

@@ -154,11 +154,11 @@ def test_as_it_stands(copy):
     assert len(said(copy, [])) == 1
 
 
-@pytest.mark.parametrize("changes, told", [row[1:] for row in WRONG], ids=[row[0] for row in WRONG])
-def test_wrong(copy, changes, told):
+@pytest.mark.parametrize("changes, expected", [row[1:] for row in WRONG], ids=[row[0] for row in WRONG])
+def test_wrong(copy, changes, expected):
     lines = [re.sub(r"\d[\d,]*", "N", line) for line in said(copy, changes)]
     assert lines[-1] == "N files, N wrong"
-    assert (lines[:len(told) - 1] + [...] if told[-1] is ... else lines[:-1]) == told
+    assert (lines[:len(expected) - 1] + [...] if expected[-1] is ... else lines[:-1]) == expected
 
 
 @pytest.mark.parametrize("changes", [row[1] for row in RIGHT], ids=[row[0] for row in RIGHT])

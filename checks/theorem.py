@@ -275,8 +275,8 @@ class Call:
         params, answer = enclosed(rest, 0)
         values = {name.strip(): kind for name, _, kind in (part.partition(":") for part in parts(params))}
         answer = answer.replace("→", " ").strip()
-        told = parts(enclosed(answer, answer.index("<"))[0]) if answer.startswith("Result<") else [answer]
-        read_of = {"IfOk": told[:1], "IfErr": told[-1:]}.get("".join(re.findall(r"\bIf\w+(?= result)", text)), told)
+        types = parts(enclosed(answer, answer.index("<"))[0]) if answer.startswith("Result<") else [answer]
+        read_of = {"IfOk": types[:1], "IfErr": types[-1:]}.get("".join(re.findall(r"\bIf\w+(?= result)", text)), types)
         values["result"] = " ".join(read_of)
         return Names(CLAUSE_FILE, self.code.lines, self.code, bounds_of("<%s>" % generics), values)
 
@@ -494,14 +494,14 @@ def by_crate(walk):
 def differences(walk, total):
     """Where the rows and the totals of the page differ from what was found."""
     page = read(THEOREM)
-    told = {crate: int(lines) for crate, lines in ROW.findall(page)}
+    stated = {crate: int(lines) for crate, lines in ROW.findall(page)}
     found = {crate: sum(map(walk.count, files)) for crate, files in by_crate(walk).items()}
     for crate in found:
-        if crate not in told:
+        if crate not in stated:
             yield "crates/%s: not in %s" % (crate, THEOREM)
-        elif told[crate] != found[crate]:
-            yield "crates/%s: %d lines, and %s says %d" % (crate, found[crate], THEOREM, told[crate])
-    for crate in told:
+        elif stated[crate] != found[crate]:
+            yield "crates/%s: %d lines, and %s says %d" % (crate, found[crate], THEOREM, stated[crate])
+    for crate in stated:
         if crate not in found:
             yield "crates/%s: in %s, and not reached" % (crate, THEOREM)
     totals = "{:,} lines for `ok` and its premises, {:,} for all clauses of the call".format(walk.total(), total)
@@ -585,9 +585,10 @@ def fenced(walk, path, blocks):
 
 def stale(walk):
     """Whether the page is another than --page would write."""
-    told, wanted = read(CLAIM).split("\n"), page(walk).split("\n")
-    if told != wanted:
-        at = next((at for at, pair in enumerate(zip(told, wanted)) if pair[0] != pair[1]), min(len(told), len(wanted)))
+    current, wanted = read(CLAIM).split("\n"), page(walk).split("\n")
+    if current != wanted:
+        shorter = min(len(current), len(wanted))
+        at = next((at for at, pair in enumerate(zip(current, wanted)) if pair[0] != pair[1]), shorter)
         yield "%s: line %d is not what the sources say; write it by checks/theorem.py --page" % (CLAIM, at + 1)
 
 

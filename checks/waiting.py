@@ -76,9 +76,9 @@ def explore(floor, fault=None):
             return None
         if run("gcc", "-DSAFETY", "-DCOLLAPSE", "-DNOREDUCE", "-DMEMLIM=2000", "-o", "pan", "pan.c").returncode:
             return None
-        told = run("./pan", "-m2000000", "-w22").stdout
-    errors = re.search(r"errors: (\d+)", told)
-    if not errors or (errors[1] == "0" and re.search(r"max search depth too small|out of memory", told)):
+        printed = run("./pan", "-m2000000", "-w22").stdout
+    errors = re.search(r"errors: (\d+)", printed)
+    if not errors or (errors[1] == "0" and re.search(r"max search depth too small|out of memory", printed)):
         return None
     return errors[1] == "0"
 

@@ -245,9 +245,9 @@ def measure(report, program, given, folder):
     snapshot, files = given.write(folder)
     words = ["replay", *options("snapshot", "capture", "settings", replies=os.devnull)]
     for name, engine in (("plain", PLAIN), ("staged", STAGED)):
-        status, peak, told = run(program, words + engine, folder, given.bound(engine, snapshot, files, 0))
+        status, peak, figures = run(program, words + engine, folder, given.bound(engine, snapshot, files, 0))
         see(report, "%s, %s" % (given.name, name), status, given.status, peak,
-            given.bound(engine, snapshot, files, told))
+            given.bound(engine, snapshot, files, figures))
     status, peak, _ = run(program, ["upgrade", *options("capture", output=os.devnull)], folder, 0)
     see(report, "%s, upgrade" % given.name, status, 0, peak, BASE)
 

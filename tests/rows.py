@@ -71,13 +71,13 @@ def slim_text(messages, length, sizes):
 
 def outline(replies):
     """Of a replies text the lines that tell a reply's number, connection, length and status, and its last line."""
-    told = ""
+    text = ""
     for line in replies.replace("\r", "").split("\n"):
         if line.startswith(("reply ", "stop ")):
-            told += line + ";"
+            text += line + ";"
         elif line.startswith("HTTP/1.1 "):
-            told += " " + line.removeprefix("HTTP/1.1 ") + ";"
-    return told
+            text += " " + line.removeprefix("HTTP/1.1 ") + ";"
+    return text
 
 
 def column(table, name):
@@ -149,8 +149,8 @@ class Row:
             for length in range(first, last):
                 cut = dict(files, **{cuts["file"]: files[cuts["file"]][:length]})
                 came = run(program, words, cut, "")
-                told = self.compare(*came, merged(self.values, wanted))
-                wrong += ["after %d bytes: %s" % (length, line) for line in told]
+                differences = self.compare(*came, merged(self.values, wanted))
+                wrong += ["after %d bytes: %s" % (length, line) for line in differences]
         return wrong
 
     def compare(self, status, error, printed, files, wanted):
@@ -193,21 +193,21 @@ class Row:
 
 
 def run(program, words, files, given):
-    """Runs the program in a folder with these files: its status, what it told on standard error and on standard output,
-    and the files that stand there afterwards. A text's characters are its bytes."""
+    """Runs the program in a folder with these files: its status, what it wrote to standard error and output, and the
+    files that stand there afterwards. A text's characters are its bytes."""
     files = {name: text.encode("latin-1") for name, text in files.items()}
-    status, *told, after = run_over(program, words, files, seconds=SECONDS, input=given.encode("latin-1"))
-    error, printed = (text.decode("latin-1") for text in told)
+    status, *texts, after = run_over(program, words, files, seconds=SECONDS, input=given.encode("latin-1"))
+    error, printed = (text.decode("latin-1") for text in texts)
     return status, error, printed, {name: data.decode("latin-1") for name, data in after.items() if data is not None}
 
 
 def spread(values):
     """The rows of a row with its name: where one of its texts is given in several ways, one for each of them."""
-    told = [(values["name"], {})]
+    variants = [(values["name"], {})]
     for text, ways in values.pop("each_text", {}).items():
-        told = [("%s-%d" % (name, number), dict(texts, **{text: way}))
-                for name, texts in told for number, way in enumerate(ways, 1)]
-    return [merged(values, {"name": name, "texts": texts}) for name, texts in told]
+        variants = [("%s-%d" % (name, number), dict(texts, **{text: way}))
+                for name, texts in variants for number, way in enumerate(ways, 1)]
+    return [merged(values, {"name": name, "texts": texts}) for name, texts in variants]
 
 
 def read_table(path):

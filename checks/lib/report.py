@@ -17,7 +17,7 @@ class Report:
         elif not self.quiet:
             print("%-*s %s" % (self.width, name, shown), flush=True)
 
-    def see_told(self, name, good, got):
+    def see_run(self, name, good, got):
         """The same of a run that begins with its status and its line, of which these are shown."""
         line = got[1][:40].decode(errors="replace").partition("\n")[0]
         self.see(name, good, got, "%s %s" % (got[0], line))

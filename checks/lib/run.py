@@ -86,8 +86,8 @@ def run_over(program, words, files, make=None, **how):
 def run_measured(program, words, folder, seconds=SECONDS, **how):
     """Status, standard error and standard output of a run in a folder, and the most memory that it had, in bytes."""
     runner = ["-I", "-S", "-c", RUNNER, str(seconds), program, *words]
-    _, told, output = run(sys.executable, runner, folder, seconds + SECONDS, **how)
-    error, _, numbers = told.rpartition(b"\n")
+    _, text, output = run(sys.executable, runner, folder, seconds + SECONDS, **how)
+    error, _, numbers = text.rpartition(b"\n")
     status, peak = json.loads(numbers)
     return (HANGS if status == -signal.SIGALRM else status, error, output), peak
 

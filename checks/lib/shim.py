@@ -19,7 +19,7 @@ def built(name, folder):
 
 
 def world(shim, **words):
-    """The environment of a run with this library, with what it is told."""
+    """The environment of a run with this library, with its variables."""
     return {**os.environ, "LD_PRELOAD": shim, **{name: str(word) for name, word in words.items()}}
 
 
@@ -27,8 +27,8 @@ def refusing(program, words, folder, shim, number, times=1, **how):
     """Status, standard error and standard output of a run in which so many requests for memory are refused from this
     one on, by refuse_memory.c; and whether there was such a request."""
     read, write = os.pipe()
-    with os.fdopen(read, "rb") as told:
+    with os.fdopen(read, "rb") as refused:
         with os.fdopen(write, "wb") as end:
             numbers = {"REFUSE_AT": number, "REFUSE_TIMES": times, "REFUSED": end.fileno()}
             ran = run(program, words, folder, env=world(shim, **numbers), pass_fds=[end.fileno()], **how)
-        return ran, told.read(1) == b"x"
+        return ran, refused.read(1) == b"x"
