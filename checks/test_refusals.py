@@ -18,7 +18,8 @@ MEMORY_ARM = "Err(PlanFault::Memory) => Err(ConfigFault::MEMORY),"
 MEMORY_GUARD = "Err(fault) if fault.kind == ConfigFaultKind::Memory => Err(AllocError),"
 MEMORY_IF = "    if error.kind() == ErrorKind::OutOfMemory {\n"
 NEXT = "            Ok(None) => break,\n            Err(fault) => return Err(ReplayFault::from(fault)),\n"
-ROOMS = "        Vec::with_capacity(alloc, ROOM),\n        Vec::with_capacity(alloc, ROOM),\n    ) else {"
+BUFFERS = ("        Vec::with_capacity(alloc, BUFFER_BYTES),\n        Vec::with_capacity(alloc, BUFFER_BYTES),\n"
+           "    ) else {")
 REFUSED_NAME = "    match FolderFault::new(alloc, name, fault) {\n"
 CUT_FAILED = "        if let CutterState::Failed = self.stage {\n            return Err(AllocError);\n        }\n"
 USE = "use std::alloc::{AllocError, Global};\n"
@@ -74,7 +75,7 @@ WRONG = [
     ("a condition that says the opposite", WORDS, MEMORY_IF, MEMORY_IF.replace("==", "!=")),
     ("a condition that says more", WORDS, MEMORY_IF, MEMORY_IF.replace("OutOfMemory", "OutOfMemory || true")),
     ("a condition of their own", WORDS, MEMORY_IF, MEMORY_IF.replace("error.kind() == ErrorKind::OutOfMemory", "true")),
-    ("one of two calls", "program/src/replaying.rt", ROOMS, ROOMS.replace("Vec::with_capacity", "first_of", 1)),
+    ("one of two calls", "program/src/replaying.rt", BUFFERS, BUFFERS.replace("Vec::with_capacity", "first_of", 1)),
     ("one of two successes", "program/src/replaying.rt", "(Ok(waiting), Ok(report_waiting))",
      "(Ok(waiting), Some(report_waiting))"),
     ("another call", "runs/src/snapshotting.rt", REFUSED_NAME,
