@@ -20,14 +20,14 @@ answer_record-requires-clause-texts g c = λ files terms. replies_laws files ter
 
 pub answer_record-requires-clause-capacity : goal.answer_record-requires-clause-capacity
 answer_record-requires-clause-capacity g c =
-    let response = c.requires.between in
-    let b = response.3 in
-    let fits = gave_some response.0 _ _ _ b.records _ _ _ c.in-Ok-Some.field-0-is (c.in-Ok-Some.ensures.next _ _ _ _ b.read).0 in (
+    let known = c.requires.between in
+    let b = known.3 in
+    let fits = gave_some known.0 _ _ _ b.records _ _ _ c.in-Ok-Some.field-0-is (c.in-Ok-Some.ensures.next _ _ _ _ b.read).0 in (
       b.records,
       b.arrivals,
       b.answered.serves,
-      sizes_left response.0 _ _ _ _ b.records _ _ b.read (rw c.in-Ok-Some.field-0-is at c.in-Ok-Some.ensures.response).capacity,
-      is_later response.0 _ b.records b.arrivals c.in-Ok-Some.next fits.rules b.answered.serves.arrived,
+      sizes_left known.0 _ _ _ _ b.records _ _ b.read (rw c.in-Ok-Some.field-0-is at c.in-Ok-Some.ensures.given).capacity,
+      is_later known.0 _ b.records b.arrivals c.in-Ok-Some.next fits.rules b.answered.serves.arrived,
     )
 
 pub returns-in_err-answer_record-clause-fault : goal.returns-in_err-answer_record-clause-fault

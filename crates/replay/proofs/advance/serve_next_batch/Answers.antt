@@ -12,12 +12,12 @@ returns-in_err-batch-clause-fault g c =
 
 pub serve_batch-requires-clause-next : goal.serve_batch-requires-clause-next
 serve_batch-requires-clause-next g c = λ κs within.
-    let response = c.requires.between in
-    let b = response.3 in
+    let known = c.requires.between in
+    let b = known.3 in
     let batch = c.in_ok-batch.ensures.batch in
     let tiers = batch.2 b.records b.tiers_are in
-    let on = batch.3 response.0 _ _ b.records b.read in
-    let next = come_next g.F.Tree.files c.args.floors.now.serving.now.server.served _ _ _ b.records batch.0 b.arrivals _ _ _ _ _ response.0 b.answered.serves b.idle batch.1 (c.deref.ensures.value ∙ tiers.0) on.fits refl in
+    let on = batch.3 known.0 _ _ b.records b.read in
+    let next = come_next g.F.Tree.files c.args.floors.now.serving.now.server.served _ _ _ b.records batch.0 b.arrivals _ _ _ _ _ known.0 b.answered.serves b.idle batch.1 (c.deref.ensures.value ∙ tiers.0) on.fits refl in
     rw c.replace-waiting.ensures.value (b.records, batch.0, b.arrivals, next)
 
 pub returns-in_err-queues-clause-fault : goal.returns-in_err-queues-clause-fault

@@ -9,29 +9,29 @@ loop-looked_up-init g c = settled_none _ _ _ _ _ _ _ _ c.in_ok-pending_replies.e
 
 pub decide_next-requires-clause-tick : goal.decide_next-requires-clause-tick
 decide_next-requires-clause-tick g c =
-    let response = c.requires.arrived in
-    (next_is _ _ _ _ _ _ _ _ _ _ response.0 response.1 c.in-Some.looked_up c.loop-looked_up.invariant c.in-Some.ensures.steps.0 response.2 response.3 response.4 response.5).0.tick
+    let known = c.requires.arrived in
+    (next_is _ _ _ _ _ _ _ _ _ _ known.0 known.1 c.in-Some.looked_up c.loop-looked_up.invariant c.in-Some.ensures.steps.0 known.2 known.3 known.4 known.5).0.tick
 
 pub decide_next-requires-clause-tier : goal.decide_next-requires-clause-tier
 decide_next-requires-clause-tier g c =
-    let response = c.requires.arrived in
-    (next_is _ _ _ _ _ _ _ _ _ _ response.0 response.1 c.in-Some.looked_up c.loop-looked_up.invariant c.in-Some.ensures.steps.0 response.2 response.3 response.4 response.5).0.tier
+    let known = c.requires.arrived in
+    (next_is _ _ _ _ _ _ _ _ _ _ known.0 known.1 c.in-Some.looked_up c.loop-looked_up.invariant c.in-Some.ensures.steps.0 known.2 known.3 known.4 known.5).0.tier
 
 pub decide_next-requires-clause-few : goal.decide_next-requires-clause-few
 decide_next-requires-clause-few g c =
-    let response = c.requires.arrived in
-    (next_is _ _ _ _ _ _ _ _ _ _ response.0 response.1 c.in-Some.looked_up c.loop-looked_up.invariant c.in-Some.ensures.steps.0 response.2 response.3 response.4 response.5).0.few
+    let known = c.requires.arrived in
+    (next_is _ _ _ _ _ _ _ _ _ _ known.0 known.1 c.in-Some.looked_up c.loop-looked_up.invariant c.in-Some.ensures.steps.0 known.2 known.3 known.4 known.5).0.few
 
 pub decide_next-requires-clause-stands : goal.decide_next-requires-clause-stands
 decide_next-requires-clause-stands g c =
-    let response = c.requires.arrived in
-    let next = (next_is _ _ _ _ _ _ _ _ _ _ response.0 response.1 c.in-Some.looked_up c.loop-looked_up.invariant c.in-Some.ensures.steps.0 response.2 response.3 response.4 response.5).0 in
+    let known = c.requires.arrived in
+    let next = (next_is _ _ _ _ _ _ _ _ _ _ known.0 known.1 c.in-Some.looked_up c.loop-looked_up.invariant c.in-Some.ensures.steps.0 known.2 known.3 known.4 known.5).0 in
     (next.arrivals, next.stands.counted, next.stands.clock c.in-Some.looked_up.message.origin.tick next.by)
 
 pub decide_next-requires-clause-lookup : goal.decide_next-requires-clause-lookup
 decide_next-requires-clause-lookup g c =
-    let response = c.requires.arrived in
-    (next_is _ _ _ _ _ _ _ _ _ _ response.0 response.1 c.in-Some.looked_up c.loop-looked_up.invariant c.in-Some.ensures.steps.0 response.2 response.3 response.4 response.5).2
+    let known = c.requires.arrived in
+    (next_is _ _ _ _ _ _ _ _ _ _ known.0 known.1 c.in-Some.looked_up c.loop-looked_up.invariant c.in-Some.ensures.steps.0 known.2 known.3 known.4 known.5).2
 
 pub loop-looked_up-preserved : goal.loop-looked_up-preserved
 loop-looked_up-preserved g c =

@@ -8,11 +8,11 @@ use Rattle.replay.proofs.decider.decide_next.Goals as goal
 pub decide-requires-clause-offers : goal.decide-requires-clause-offers
 decide-requires-clause-offers g c =
     let files = g.F.Tree.files in let terms = c.args.server.now.served in
-    let response = c.requires.stands in
+    let known = c.requires.stands in
     let below = c.requires.few in
-    let is = answered_is files terms response.0 c.args.decider.now response.1 in
-    let few = offers_few files terms response.0 in
-    (offers_of files terms response.0, response.1.fits, omega (arith, below, is, few))
+    let is = answered_is files terms known.0 c.args.decider.now known.1 in
+    let few = offers_few files terms known.0 in
+    (offers_of files terms known.0, known.1.fits, omega (arith, below, is, few))
 
 pub decide-requires-clause-clock : goal.decide-requires-clause-clock
 decide-requires-clause-clock g c =
@@ -21,10 +21,10 @@ decide-requires-clause-clock g c =
 pub record_reply-requires-clause-counts : goal.record_reply-requires-clause-counts
 record_reply-requires-clause-counts g c =
     let files = g.F.Tree.files in let terms = c.args.server.now.served in
-    let response = c.requires.stands in
-    let judged = c.in_ok-answer.ensures.response_of (offers_of files terms response.0) response.1.fits (samples_are files terms response.0 c.args.decider.now response.1) in
-    let few = response.1.few in
-    let kept = counts_kept _ files terms response.0 c.args.origin c.args.what.now c.args.decider.now c.decide.new.self (response_of c.in_ok-answer.answer) 18446744073709551615 response.1 judged (omega (arith, few)) in
+    let known = c.requires.stands in
+    let judged = c.in_ok-answer.ensures.response_of (offers_of files terms known.0) known.1.fits (samples_are files terms known.0 c.args.decider.now known.1) in
+    let few = known.1.few in
+    let kept = counts_kept _ files terms known.0 c.args.origin c.args.what.now c.args.decider.now c.decide.new.self (response_of c.in_ok-answer.answer) 18446744073709551615 known.1 judged (omega (arith, few)) in
     kept.0
 
 pub returns-clause-stands : goal.returns-clause-stands

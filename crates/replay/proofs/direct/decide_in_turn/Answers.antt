@@ -12,23 +12,23 @@ loop-message-init g c =
 
 pub decide_next-requires-clause-tick : goal.decide_next-requires-clause-tick
 decide_next-requires-clause-tick g c =
-    let response = c.requires.next in
-    (next_of _ _ _ _ _ _ _ _ _ _ response.0 response.1 c.in-Some.message c.loop-message.invariant c.in-Some.ensures.steps.0 response.2 response.3).tick
+    let known = c.requires.next in
+    (next_of _ _ _ _ _ _ _ _ _ _ known.0 known.1 c.in-Some.message c.loop-message.invariant c.in-Some.ensures.steps.0 known.2 known.3).tick
 
 pub decide_next-requires-clause-tier : goal.decide_next-requires-clause-tier
 decide_next-requires-clause-tier g c =
-    let response = c.requires.next in
-    (next_of _ _ _ _ _ _ _ _ _ _ response.0 response.1 c.in-Some.message c.loop-message.invariant c.in-Some.ensures.steps.0 response.2 response.3).tier
+    let known = c.requires.next in
+    (next_of _ _ _ _ _ _ _ _ _ _ known.0 known.1 c.in-Some.message c.loop-message.invariant c.in-Some.ensures.steps.0 known.2 known.3).tier
 
 pub decide_next-requires-clause-few : goal.decide_next-requires-clause-few
 decide_next-requires-clause-few g c =
-    let response = c.requires.next in
-    (next_of _ _ _ _ _ _ _ _ _ _ response.0 response.1 c.in-Some.message c.loop-message.invariant c.in-Some.ensures.steps.0 response.2 response.3).few
+    let known = c.requires.next in
+    (next_of _ _ _ _ _ _ _ _ _ _ known.0 known.1 c.in-Some.message c.loop-message.invariant c.in-Some.ensures.steps.0 known.2 known.3).few
 
 pub decide_next-requires-clause-stands : goal.decide_next-requires-clause-stands
 decide_next-requires-clause-stands g c =
-    let response = c.requires.next in
-    let next = next_of _ _ _ _ _ _ _ _ _ _ response.0 response.1 c.in-Some.message c.loop-message.invariant c.in-Some.ensures.steps.0 response.2 response.3 in
+    let known = c.requires.next in
+    let next = next_of _ _ _ _ _ _ _ _ _ _ known.0 known.1 c.in-Some.message c.loop-message.invariant c.in-Some.ensures.steps.0 known.2 known.3 in
     (next.arrivals, next.stands.counted, next.stands.clock c.in-Some.message.origin.tick next.by)
 
 pub loop-message-preserved : goal.loop-message-preserved

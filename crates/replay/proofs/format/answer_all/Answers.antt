@@ -20,9 +20,9 @@ loop-message-init g c = (
 
 pub write_message-requires-clause-stands : goal.write_message-requires-clause-stands
 write_message-requires-clause-stands g c =
-    let response = c.requires.stands in
+    let known = c.requires.stands in
     let sofar = take c.loop-message.message-index c.args.messages.now in
-    (response.0 ++ arrivals_with 0 0 c.args.origin sofar, c.loop-message.invariant.0 response.0 0 0 response.1, by_more 0 0 c.args.origin sofar response.0 response.2)
+    (known.0 ++ arrivals_with 0 0 c.args.origin sofar, c.loop-message.invariant.0 known.0 0 0 known.1, by_more 0 0 c.args.origin sofar known.0 known.2)
 
 -- the message that the loop is at
 pub write_message-requires-clause-few : goal.write_message-requires-clause-few

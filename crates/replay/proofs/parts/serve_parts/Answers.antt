@@ -28,9 +28,9 @@ returns-in_err-serve_part-clause-many g c =
     let served = c.loop-part.invariant.0 in
     let steps = c.in-Some.ensures.steps.0 in
     let part = c.in-Some.part in
-    let response = answered_now _ _ _ part _ _ _ _ _ _ next.0 next.1 served steps next.2 in
-    let counted = response.0 in
-    let fits = response.1 in
+    let known = answered_now _ _ _ part _ _ _ _ _ _ next.0 next.1 served steps next.2 in
+    let counted = known.0 in
+    let fits = known.1 in
     passed_on c.from_residual.result _ _
     (λ f same. rw same (on_many c.in_err-serve_part.field-0.0 _ _
     (λ n full. (
@@ -56,9 +56,9 @@ returns-in_err-serve_part-clause-part g c =
     let served = c.loop-part.invariant.0 in
     let steps = c.in-Some.ensures.steps.0 in
     let part = c.in-Some.part in
-    let response = answered_now _ _ _ part _ _ _ _ _ _ next.0 next.1 served steps next.2 in
-    let counted = response.0 in
-    let fits = response.1 in
+    let known = answered_now _ _ _ part _ _ _ _ _ _ next.0 next.1 served steps next.2 in
+    let counted = known.0 in
+    let fits = known.1 in
     passed_on c.from_residual.result _ _
     (λ f same. rw same (on_cut c.in_err-serve_part.field-0.0 _ _
     (λ short. (

@@ -12,10 +12,10 @@ from_own {conn} {tick} e = ap (λ t. record { conn = conn; tick = tick; tier = t
 
 pub read-requires-clause-capacity : goal.read-requires-clause-capacity
 read-requires-clause-capacity g c =
-    let response = c.requires.capacity in
+    let known = c.requires.capacity in
     let size : size_of c.args.next.now ≡ length c.as_slice.result.now = ap size_of c.in-Piece.is ∙ ap length (sym c.as_slice.ensures) in
-    let fits : sizes_of response.0 + length c.as_slice.result.now ≤ 1125899906842624 = (let h = response.3 in omega (arith, size, h)) in
-    has_room g.F.Tree.files c.args.server.now.served response.0 response.1 (g.C.Reading.connections c.args.connections.now) c.args.decider.now c.from-in-Piece.result (length c.as_slice.result.now) (rw c.from-in-Piece.ensures (number_in _ _ _ c.in-Piece.is c.requires.record.1)) response.2 fits
+    let fits : sizes_of known.0 + length c.as_slice.result.now ≤ 1125899906842624 = (let h = known.3 in omega (arith, size, h)) in
+    has_room g.F.Tree.files c.args.server.now.served known.0 known.1 (g.C.Reading.connections c.args.connections.now) c.args.decider.now c.from-in-Piece.result (length c.as_slice.result.now) (rw c.from-in-Piece.ensures (number_in _ _ _ c.in-Piece.is c.requires.record.1)) known.2 fits
 
 pub returns-in-End-clause-serves : goal.returns-in-End-clause-serves
 returns-in-End-clause-serves g c = λ records arrivals tiers serves.

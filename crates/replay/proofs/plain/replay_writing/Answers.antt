@@ -59,7 +59,7 @@ returns-in-Err-next_record-clause-fault g c =
     (most_of inv.7 c.loop-next.invariant.6 c.loop-next.invariant.5)
 
 pub answer_record-requires-clause-record : goal.answer_record-requires-clause-record
-answer_record-requires-clause-record g c = (c.loop-next.capture.progress.version, (rw c.in-Ok-Some.field-0-is at c.in-Ok-Some.ensures.response).limits)
+answer_record-requires-clause-record g c = (c.loop-next.capture.progress.version, (rw c.in-Ok-Some.field-0-is at c.in-Ok-Some.ensures.given).limits)
 
 pub answer_record-requires-clause-limit : goal.answer_record-requires-clause-limit
 answer_record-requires-clause-limit g c =
@@ -74,7 +74,7 @@ answer_record-requires-clause-capacity g c =
       inv.1,
       inv.2,
       inv.4,
-      sizes_left inv.0 _ _ _ _ inv.1 _ _ inv.3 (rw c.in-Ok-Some.field-0-is at c.in-Ok-Some.ensures.response).capacity,
+      sizes_left inv.0 _ _ _ _ inv.1 _ _ inv.3 (rw c.in-Ok-Some.field-0-is at c.in-Ok-Some.ensures.given).capacity,
       is_later inv.0 _ inv.1 inv.2 c.in-Ok-Some.next fits.rules inv.4.arrived,
     )
 

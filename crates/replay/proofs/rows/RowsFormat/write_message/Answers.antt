@@ -11,8 +11,8 @@ use Rattle.replay.proofs.rows.RowsFormat.write_message.Goals as goal
 
 pub outlook-requires-clause-forward : goal.outlook-requires-clause-forward
 outlook-requires-clause-forward g c =
-    let response = c.requires.stands in
-    let late = response.1.clock c.args.origin.tick response.2 c.tick-tick.result c.tick-tick.ensures.rises in
+    let known = c.requires.stands in
+    let late = known.1.clock c.args.origin.tick known.2 c.tick-tick.result c.tick-tick.ensures.rises in
     let most = c.requires.tick in
     let range = c.tick-tick.ensures.range in
     (late, omega (arith, most, range))
@@ -25,9 +25,9 @@ outlook-requires-clause-place g c =
 
 pub decide_next-requires-clause-stands : goal.decide_next-requires-clause-stands
 decide_next-requires-clause-stands g c =
-    let response = c.requires.stands in (
-      response.0,
-      stands_still g.F.Tree.files c.args.server.now.served response.0 c.args.decider.now c.outlook.new.self c.outlook.ensures.same response.1.counted,
+    let known = c.requires.stands in (
+      known.0,
+      stands_still g.F.Tree.files c.args.server.now.served known.0 c.args.decider.now c.outlook.new.self c.outlook.ensures.same known.1.counted,
       λ counted counts. subst (λ t. t ≤ counted) (sym c.tick-tick.ensures.value ∙ sym c.outlook.ensures.clock) (counts c.args.origin.tick (omega arith)),
     )
 
