@@ -6,11 +6,11 @@ use Rattle.replay.proofs.plain.figures_of.Goals as goal
 pub returns-clause-tiers : goal.returns-clause-tiers
 returns-clause-tiers c = λ offers fits.
     let is = c.into_parts-controls.ensures.controls offers fits in
-    let four = c.way_told-1.response in
-    let zero = taken_at (λ v. v.items) _ _ 0 c.zero-1.response.0 four (omega arith) c.zero-1.response.1 is in
-    let one = taken_at (λ v. v.items) _ _ 1 c.one-1.response.0 four (omega arith) c.one-1.response.1 is in
-    let two = taken_at (λ v. v.items) _ _ 2 c.two-1.response.0 four (omega arith) c.two-1.response.1 is in
-    let three = taken_at (λ v. v.items) _ _ 3 c.three-1.response.0 four (omega arith) c.three-1.response.1 is in
+    let four = c.way_told-1.given in
+    let zero = taken_at (λ v. v.items) _ _ 0 c.zero-1.given.0 four (omega arith) c.zero-1.given.1 is in
+    let one = taken_at (λ v. v.items) _ _ 1 c.one-1.given.0 four (omega arith) c.one-1.given.1 is in
+    let two = taken_at (λ v. v.items) _ _ 2 c.two-1.given.0 four (omega arith) c.two-1.given.1 is in
+    let three = taken_at (λ v. v.items) _ _ 3 c.three-1.given.0 four (omega arith) c.three-1.given.1 is in
     let counts-0 = c.counted-of_zero.ensures offers fits in
     let counts-1 = c.counted-of_one.ensures offers fits in
     let counts-2 = c.counted-of_two.ensures offers fits in
