@@ -308,13 +308,6 @@ gave_end v text now start records p x is h = subst (λ (o : Option Record). Gave
 
 -- ---- the end
 
--- the limit is that of the capture's format
-pub limit_of : {v w : Version} {most : ℕ} → w ≡ v → most ≡ (format_of w).max_messages → most ≡ (format_of v).max_messages
-limit_of {v} {w} {most} same is = is ∙ ap (λ u. (format_of u).max_messages) same
-
-pub most_of : {v w : Version} {most answered : ℕ} → w ≡ v → most ≡ (format_of w).max_messages → answered ≤ most → answered ≤ (format_of v).max_messages
-most_of {v} {w} {most} {answered} same is within = let limit = limit_of same is in omega (arith, limit, within)
-
 -- the messages that were answered are no more than the format allows
 within_most : (files : List File) (terms : Terms) (v : Version) (arrivals : List Arrival) (decider : Decider) → DeciderAfter files terms arrivals decider → decider.totals.answered ≤ (format_of v).max_messages → length arrivals ≤ (format_of v).max_messages
 within_most files terms v arrivals decider stands most = let is = answered_is files terms arrivals decider stands.counted in omega (arith, is, most)
@@ -450,74 +443,13 @@ cut_part t v input now old mid new start most records arrivals rs p laws fits wr
       written = rw here (text_part t start arrivals (take part.within part.more) old mid new laws written part.written);
     }))
 
--- a reader that failed is reported
-pub failures_reported : (old new : ℕ) (f : CaptureFault) (r : PassFault) → r ≡ pass_fault f → new ≡ old + failures_of f.kind
-    → (new ≡ old + reader_failures r) ⊎ ((leaves_reads_unreported r ≡ true) × (new ≡ old + 1))
-failures_reported old new f r is count =
-    let same : reader_failures r ≡ failures_of f.kind = ap reader_failures is ∙ reported_reads f in
-    inl (omega (arith, same, count))
-
--- ---- where the replies are reported
-
-pub first_written : (files : List File) (terms : Terms) (start : ℕ) (old new : Option (List ℕ)) → Appends old new first_line → Appends old new (text_before_stop (replies_of files terms start (handled files terms [])))
-first_written files terms start old new h = text_begun (reply_texts files terms) start old new (replies_laws files terms) h
-
-pub more_written : (files : List File) (terms : Terms) (start : ℕ) (arrivals more : List Arrival) (old mid new : Option (List ℕ)) → Appends old mid (text_before_stop (replies_of files terms start (handled files terms arrivals)))
-    → Written files terms start arrivals more mid new → Appends old new (text_before_stop (replies_of files terms start (handled files terms (arrivals ++ more))))
-more_written files terms start arrivals more old mid new before after = text_wrote (reply_texts files terms) start arrivals more old mid new (replies_laws files terms) before after
+-- ---- what the engines report
 
 -- what was reported is the answer
 pub has_answered : (files : List File) (terms : Terms) (input old new : Option (List ℕ)) (outcome : Outcome) → WritesWhole (reply_texts files terms) files terms input old new outcome → Answers files terms input old new outcome
 has_answered files terms input old new outcome h = answered files terms input old new outcome h.read h.written h.outcome_is
 
-pub answers_all : (files : List File) (terms : Terms) (v : Version) (start count : ℕ) (records : List Record) (arrivals : List Arrival) (connections : List Connection) (decider : Decider)
-    (input old mid new : Option (List ℕ)) (outcome : Outcome) → IsCapture v start records → WhereKnown input (λ bytes. IsCaptureText v bytes start records)
-    → Serves files terms records arrivals connections decider
-    → Appends old mid (text_before_stop (replies_of files terms start (handled files terms arrivals))) → Appends mid new (last_line count) → count ≡ decider.totals.answered
-    → decider.totals.answered ≤ (format_of v).max_messages → outcome.version ≡ v → outcome.rejected ≡ decider.totals.rejected → outcome.summary ≡ summary_of files terms arrivals → Answers files terms input old new outcome
-answers_all files terms v start count records arrivals connections decider input old mid new outcome rules capture serves before last counted most version rejected response_of =
-    has_answered files terms input old new outcome
-    (all_written (reply_texts files terms) files terms v start count records arrivals connections decider input old mid new outcome (replies_laws files terms) rules capture serves before last counted most version rejected response_of)
-
-pub ends_in_part : (files : List File) (terms : Terms) (v : Version) (start count : ℕ) (records : List Record) (arrivals : List Arrival) (connections : List Connection) (decider : Decider)
-    (input old mid new : Option (List ℕ)) → IsCapture v start records → WhereKnown input (λ bytes. IsCaptureText v bytes start records)
-    → Serves files terms records arrivals connections decider
-    → Appends old mid (text_before_stop (replies_of files terms start (handled files terms arrivals))) → AppendsPrefix mid new (last_line count) → count ≡ decider.totals.answered → decider.totals.answered ≤ (format_of v).max_messages
-    → IsCutOff (reply_texts files terms) input old new
-ends_in_part files terms v start count records arrivals connections decider input old mid new rules capture serves before last counted most =
-    ends_short (reply_texts files terms) files terms v start count records arrivals connections decider input old mid new (replies_laws files terms) rules capture serves before last counted most
-
-pub stops_first : (files : List File) (terms : Terms) (input ahead old new : Option (List ℕ)) (f : CaptureFault) → Appends old new first_line → f.at ≡ 0 → IsForeseen IsHeaderFault input f
-    → FailsFirst input f ahead → Stops files terms input ahead old new f
-stops_first files terms input ahead old new f written at fault failed = halts_first (reply_texts files terms) input ahead old new f written at fault failed
-
-pub stops_reported : (files : List File) (terms : Terms) (v : Version) (input now ahead left old new : Option (List ℕ)) (start : ℕ) (records : List Record) (arrivals : List Arrival) (p : Progress) (connections : List Connection) (decider : Decider)
-    (f : CaptureFault) (r : PassFault) → r ≡ pass_fault f
-    → ReaderAfter v input start records p now → Serves files terms records arrivals connections decider → Appends old new (text_before_stop (replies_of files terms start (handled files terms arrivals)))
-    → (f.at ≡ length records + 1) × IsForeseen (λ bytes. IsFaultAfter v bytes start records) input f → FailsNext v input start records (Err f) left
-    → ahead ≡ left → decider.totals.answered ≤ (format_of v).max_messages → Leaves (reply_texts files terms) input ahead old new r
-stops_reported files terms v input now ahead left old new start records arrivals p connections decider f r is fits serves written fault failed same most =
-    halts_written (reply_texts files terms) files terms v input now ahead left old new start records arrivals p connections decider f r is fits serves written fault failed same most
-
 -- what is left of the input, found before the rest is in sight
-pub left_first : (files : List File) (terms : Terms) (input ahead left old new : Option (List ℕ)) (r : PassFault) → ahead ≡ left
-    → (ahead ≡ left → Leaves (reply_texts files terms) input ahead old new r) → Leaves (reply_texts files terms) input ahead old new r
-left_first files terms input ahead left old new r same rest = rest same
-
-pub short_among : (files : List File) (terms : Terms) (v : Version) (input now old new : Option (List ℕ)) (start : ℕ) (records : List Record) (arrivals : List Arrival) (p : Progress) (connections : List Connection) (decider : Decider)
-    → ReaderAfter v input start records p now → Serves files terms records arrivals connections decider → Appends old new (text_before_stop (replies_of files terms start (handled files terms arrivals))) → decider.totals.answered ≤ (format_of v).max_messages
-    → IsCutOff (reply_texts files terms) input old new
-short_among files terms v input now old new start records arrivals p connections decider fits serves written most =
-    cut_among (reply_texts files terms) files terms v input now old new start records arrivals p connections decider fits serves written most
-
-pub stops_full : (files : List File) (terms : Terms) (v : Version) (input now old mid new : Option (List ℕ)) (start n most : ℕ) (records : List Record) (arrivals : List Arrival) (rs : List Record) (p : Progress)
-    → ReaderAfter v input start (records ++ rs) p now → Appends old mid (text_before_stop (replies_of files terms start (handled files terms arrivals))) → n ≡ most → most ≡ (format_of v).max_messages
-    → ServesFull files terms most start records arrivals rs mid new → StopsFull files terms input old new n
-stops_full files terms v input now old mid new start n most records arrivals rs p fits written number limit full =
-    halts_full (reply_texts files terms) v input now old mid new start n most records arrivals rs p (replies_laws files terms) fits written number limit full
-
-pub short_part : (files : List File) (terms : Terms) (v : Version) (input now old mid new : Option (List ℕ)) (start most : ℕ) (records : List Record) (arrivals : List Arrival) (rs : List Record) (p : Progress)
-    → ReaderAfter v input start (records ++ rs) p now → Appends old mid (text_before_stop (replies_of files terms start (handled files terms arrivals)))
-    → most ≡ (format_of v).max_messages → ServesInPart files terms most start records arrivals rs mid new → IsCutOff (reply_texts files terms) input old new
-short_part files terms v input now old mid new start most records arrivals rs p fits written limit part =
-    cut_part (reply_texts files terms) v input now old mid new start most records arrivals rs p (replies_laws files terms) fits written limit part
+pub left_first : (t : Texts) (input ahead left old new : Option (List ℕ)) (r : PassFault) → ahead ≡ left
+    → (ahead ≡ left → Leaves t input ahead old new r) → Leaves t input ahead old new r
+left_first t input ahead left old new r same rest = rest same

@@ -28,7 +28,7 @@ use Rattle.arrivals.specs.declared.incoming.Origin.{Origin}
 use Rattle.captures.specs.declared.pass_fault.PassFault.{PassFault}
 use Rattle.captures.specs.declared.pass_fault.PassFault.TheVariants.{Capture, TooMany, Memory, Write as Unwritten}
 use Rattle.replay.specs.Totals.{AreBelow, no_counts, totals_of, with_reply, decided_totals, Decides}
-use Rattle.replay.specs.Serving.{Counted, DeciderAfter, AreBy, IsOnTime, records_after}
+use Rattle.replay.specs.Serving.{Counted, DeciderAfter, AreBy, IsOnTime, SameCapture, records_after}
 use Rattle.http_requests.specs.declared.messages.Message.{Message}
 use Rattle.arrivals.specs.Connections.{arrivals_with}
 use Rattle.std.proofs.lemmas.List.Elements.{All-nil, All-cons, All-append, All-head, All-tail}
@@ -50,13 +50,14 @@ decides_none offers decider fits samples = record {
   is_away = refl;
   totals = rw (append-nil offers, ← samples, append-nil decider.totals.rejected) refl;
   start = refl;
+  most = refl;
   clock = refl;
 }
 
 pub decides_admitted : (offers : List Offer) (offer : Offer) (finish : ℕ) (decision : Decision) (old new : Decider) (controller : Standing) → decision ≡ Admitted finish
     → decision ≡ decide (station_of old.controller) (decided (station_of old.controller) offers) offer
     → station_of controller ≡ station_of old.controller → ControllerAfter (offers ++ offer ∷ []) controller → controller.clock ≡ offer.tick → old.totals.samples ≡ samples_of (station_of old.controller) offers
-    → new ≡ record { start = old.start; controller = controller; totals = decided_totals old.totals (old.totals.samples ++ (finish - offer.tick + offer.delay) ∷ []) false }
+    → new ≡ record { start = old.start; most = old.most; controller = controller; totals = decided_totals old.totals (old.totals.samples ++ (finish - offer.tick + offer.delay) ∷ []) false }
     → Decides offers (offer ∷ []) old new false
 unfolding tick_from
 decides_admitted offers offer finish decision old new controller is e rules fits clock samples response_of =
@@ -67,13 +68,14 @@ decides_admitted offers offer finish decision old new controller is e rules fits
       is_away = is_admitted_one (station_of old.controller) offers offer finish own;
       totals = ap (λ xs. decided_totals old.totals xs false) (ap (λ xs. xs ++ (finish - offer.tick + offer.delay) ∷ []) samples ∙ sym (samples_admitted (station_of old.controller) offers offer finish own));
       start = refl;
+      most = refl;
       clock = clock;
     })
 
 pub decides_rejected : (offers : List Offer) (offer : Offer) (decision : Decision) (old new : Decider) (controller : Standing) → decision ≡ Rejected
     → decision ≡ decide (station_of old.controller) (decided (station_of old.controller) offers) offer
     → station_of controller ≡ station_of old.controller → ControllerAfter (offers ++ offer ∷ []) controller → controller.clock ≡ offer.tick → old.totals.samples ≡ samples_of (station_of old.controller) offers
-    → new ≡ record { start = old.start; controller = controller; totals = decided_totals old.totals old.totals.samples true }
+    → new ≡ record { start = old.start; most = old.most; controller = controller; totals = decided_totals old.totals old.totals.samples true }
     → Decides offers (offer ∷ []) old new true
 unfolding tick_from
 decides_rejected offers offer decision old new controller is e rules fits clock samples response_of =
@@ -84,6 +86,7 @@ decides_rejected offers offer decision old new controller is e rules fits clock 
       is_away = is_rejected_one (station_of old.controller) offers offer own;
       totals = ap (λ xs. decided_totals old.totals xs true) (samples ∙ sym (samples_rejected (station_of old.controller) offers offer own));
       start = refl;
+      most = refl;
       clock = clock;
     })
 
@@ -91,12 +94,13 @@ decides_rejected offers offer decision old new controller is e rules fits clock 
 abbrev pub decider_with : Decider → Standing → List ℕ → List ℕ → Decider
 decider_with decider controller rejected samples = record {
   start = decider.start;
+  most = decider.most;
   controller = controller;
   totals = record { answered = decider.totals.answered; counts = decider.totals.counts; bypassed = decider.totals.bypassed; rejected = rejected; samples = samples };
 }
 
 abbrev pub decider_then : Decider → Standing → List ℕ → Bool → Decider
-decider_then decider controller samples away = record { start = decider.start; controller = controller; totals = decided_totals decider.totals samples away }
+decider_then decider controller samples away = record { start = decider.start; most = decider.most; controller = controller; totals = decided_totals decider.totals samples away }
 
 pub decider_sampled : (decider : Decider) (controller : Standing) (samples more : List ℕ) → samples ≡ more → decider_with decider controller decider.totals.rejected samples ≡ decider_then decider controller more false
 decider_sampled decider controller samples more e = rw (e, append-nil decider.totals.rejected) refl
@@ -160,13 +164,15 @@ pub stands_more : (files : List File) (terms : Terms) (arrivals : List Arrival) 
     → IsOnTime terms.speed a.origin.tick old.controller.clock
     → Decides (offers_of files terms arrivals) (offer_at files terms a.origin a.message.what) old mid away
     → status ≡ status_of (response {X = Unit {0}} files terms away a.message.what)
-    → new.controller ≡ mid.controller → new.totals ≡ with_reply mid.totals status (breaks_a_rule a.message.what)
+    → SameCapture mid new → new.controller ≡ mid.controller → new.totals ≡ with_reply mid.totals status (breaks_a_rule a.message.what)
     → length arrivals < 536870912 → DeciderAfter files terms (arrivals ++ a ∷ []) new
-stands_more files terms arrivals a away old mid new status stands by decides response_of same counted few =
+stands_more files terms arrivals a away old mid new status stands by decides response_of capture same counted few =
     let away_is : away ≡ is_turned_away files terms arrivals a = rw stands.station at decides.is_away in
     let passed = clock_more files terms a a.message.what _ _ by (ap (λ c. c.clock) same ∙ decides.clock) in
     record {
       counted = record {
+        early = let here = capture.0 in let there = decides.start in let early = stands.early in omega (arith, here, there, early);
+        most = let here = capture.1 in let there = decides.most in let most = stands.most in omega (arith, here, there, most);
         station = ap station_of same ∙ decides.station ∙ stands.station;
         fits = rw (same, offers_more files terms arrivals a) decides.fits;
         totals = counted ∙ rw (decides.totals, stands.totals, stands.station, response_of) (totals_more files terms arrivals a away away_is);
@@ -175,11 +181,11 @@ stands_more files terms arrivals a away old mid new status stands by decides res
       clock = later_more terms arrivals a new.controller.clock passed;
     }
 
-pub stands_none : (files : List File) (terms : Terms) (decider : Decider) → (station_of decider.controller) ≡ (station_for terms) → ControllerAfter [] decider.controller → decider.controller.clock ≡ 0
+pub stands_none : (files : List File) (terms : Terms) (decider : Decider) → decider.start ≤ 4102444800 → decider.most ≤ 536870912 → (station_of decider.controller) ≡ (station_for terms) → ControllerAfter [] decider.controller → decider.controller.clock ≡ 0
     → decider.totals ≡ record { answered = 0; counts = no_counts; bypassed = 0; rejected = []; samples = [] } → DeciderAfter files terms [] decider
 unfolding offers_of samples_of handled_after served decided_from
-stands_none files terms decider rules fits clock totals = record {
-  counted = record { station = rules; fits = fits; totals = totals; few = omega arith };
+stands_none files terms decider early most rules fits clock totals = record {
+  counted = record { early = early; most = most; station = rules; fits = fits; totals = totals; few = omega arith };
   clock = λ tick by counted counts. rw clock (omega arith);
 }
 
@@ -220,11 +226,11 @@ counts_kept X files terms arrivals origin what old mid response_of n stands judg
 pub stands_after : (X : Type 0) (files : List File) (terms : Terms) (arrivals : List Arrival) (a : Arrival) (origin : Origin) (what : Meaning) (old mid : Decider) (totals : Totals) (response_of : ResponseKind X) → Counted files terms arrivals old → IsOnTime terms.speed a.origin.tick old.controller.clock
     → a.origin ≡ origin → a.message.what ≡ what → old.totals.answered < 536870912 → Judged files terms (offers_of files terms arrivals) origin what old mid response_of
     → totals ≡ with_reply mid.totals (status_of response_of) (breaks_a_rule what)
-    → DeciderAfter files terms (arrivals ++ a ∷ []) (record { start = mid.start; controller = mid.controller; totals = totals })
+    → DeciderAfter files terms (arrivals ++ a ∷ []) (record { start = mid.start; most = mid.most; controller = mid.controller; totals = totals })
 stands_after X files terms arrivals a origin what old mid totals response_of stands by from meaning capacity judged counted =
     let e = answered_is files terms arrivals old stands in
     let status : status_of response_of ≡ status_of (response {X = Unit {0}} files terms judged.0 a.message.what) = rw (judged.2, meaning) (status_same X (Unit {0}) files terms judged.0 what) in
-    stands_more files terms arrivals a judged.0 old mid _ (status_of response_of) stands by (rw (from, meaning) judged.1) status refl (rw meaning counted) (omega (arith, e, capacity))
+    stands_more files terms arrivals a judged.0 old mid _ (status_of response_of) stands by (rw (from, meaning) judged.1) status (refl, refl) refl (rw meaning counted) (omega (arith, e, capacity))
 
 pub slip_is : (X : Type 0) (files : List File) (terms : Terms) (start : ℕ) (arrivals : List Arrival) (a : Arrival) (origin : Origin) (what : Meaning) (old mid : Decider) (response_of : ResponseKind X) (conn : ℕ) (head : Bool) (link : Persistence) (slip : Slip X)
     → Counted files terms arrivals old → a.origin ≡ origin → a.message.what ≡ what → Judged files terms (offers_of files terms arrivals) origin what old mid response_of

@@ -4,6 +4,7 @@ pub mod Writing
 pub mod Texts
 pub mod RowByRow
 pub mod ByRecord
+pub mod Loads
 pub mod Lookups
 pub mod OneByOne
 pub mod PendingReplies

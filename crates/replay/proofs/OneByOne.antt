@@ -9,7 +9,7 @@ use Rattle.responses.specs.Reference.{record_text}
 use Rattle.reference.specs.Reference.{Terms, handled_next, slip_of}
 use Rattle.arrivals.specs.Reference.{Arrival}
 use Rattle.arrivals.specs.declared.incoming.Incoming.{Incoming}
-use Rattle.replay.specs.Serving.{DeciderAfter}
+use Rattle.replay.specs.Serving.{DeciderAfter, SameCapture}
 use Rattle.replay.specs.Fronts.{front_value}
 use Rattle.replay.specs.Backs.{is_back, slip_of_pending, reply_to}
 use Rattle.replay.specs.Groups.{all_of, records_of}
@@ -44,11 +44,11 @@ pub settled_next : {X : Type 0} (files : List File) (terms : Terms) (tariff : Ta
     (message : Incoming) → SettledOf files terms tariff messages old now rest pending_replies k → rest ≡ message ∷ after
     → ((arrivals : List Arrival) (a : Arrival) → DeciderAfter files terms arrivals now → incoming_of a ≡ message → DeciderAfter files terms (arrivals ++ a ∷ []) next)
     → ((arrivals : List Arrival) (a : Arrival) → DeciderAfter files terms arrivals now → incoming_of a ≡ message → slip_of_pending t ≡ slip_of files terms now.start (handled_next files terms arrivals a))
-    → is_back files (Pending t) ≡ true → next.start ≡ now.start
+    → is_back files (Pending t) ≡ true → SameCapture now next
     → SettledOf files terms tariff messages old next after (pending_replies ++ t ∷ []) (k + 1)
-settled_next files terms tariff messages old now next rest after pending_replies t k message settled steps stands slip ready start =
+settled_next files terms tariff messages old now next rest after pending_replies t k message settled steps stands slip ready same =
     settled_more files terms tariff (map (front_value files tariff) messages) old now next (map (front_value files tariff) rest) (map (front_value files tariff) after) pending_replies t k
-    (front_value files tariff message) settled (ap (map (front_value files tariff)) steps) stands slip ready start
+    (front_value files tariff message) settled (ap (map (front_value files tariff)) steps) stands slip ready same
 
 pub settled_whole : {X : Type 0} (files : List File) (terms : Terms) (tariff : Tariff) (messages : List Incoming) (old now : Decider) (rest : List Incoming) (pending_replies : List (PendingReply X)) (k : ℕ) (arrivals more : List Arrival)
     → SettledOf files terms tariff messages old now rest pending_replies k → rest ≡ [] → Upcoming files terms arrivals more messages old → take k more ≡ more

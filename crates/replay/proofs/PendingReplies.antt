@@ -6,7 +6,7 @@ use Rattle.paths.specs.declared.file.File.{File}
 use Rattle.cost_model.specs.Reference.{Tariff}
 use Rattle.reference.specs.Reference.{Terms, handled_next, handled_after, slip_of}
 use Rattle.arrivals.specs.Reference.{Arrival}
-use Rattle.replay.specs.Serving.{DeciderAfter, AreBy}
+use Rattle.replay.specs.Serving.{DeciderAfter, AreBy, SameCapture}
 use Rattle.replay.specs.Fronts.{front_value, lookup_of}
 use Rattle.replay.specs.Backs.{is_back, slip_of_pending}
 use Rattle.replay.specs.Waiting.{incoming_of, AreLookedUp, InTime}
@@ -26,7 +26,7 @@ pub record Settled {X : Type 0} (files : List File) (terms : Terms) (tariff : Ta
   pub slips : (arrivals more : List Arrival) → DeciderAfter files terms arrivals old → AreLookedUp files tariff more lookups
       → map slip_of_pending pending_replies ≡ map (slip_of files terms old.start) (handled_after files terms arrivals (take k more))
   pub ready : list_all (λ t. is_back files (Pending t)) pending_replies ≡ true
-  pub start : now.start ≡ old.start
+  pub same : SameCapture old now
 
 -- the element of a list that a place of its image shows
 pub record At {A B : Type 0} (f : A → B) (more : List A) (k : ℕ) (s : B) : Type 0 where
@@ -114,9 +114,9 @@ pub settled_more : {X : Type 0} (files : List File) (terms : Terms) (tariff : Ta
     (s : LookedUp) → Settled files terms tariff lookups old now rest pending_replies k → rest ≡ s ∷ after
     → ((arrivals : List Arrival) (a : Arrival) → DeciderAfter files terms arrivals now → incoming_of a ≡ s.message → DeciderAfter files terms (arrivals ++ a ∷ []) next)
     → ((arrivals : List Arrival) (a : Arrival) → DeciderAfter files terms arrivals now → incoming_of a ≡ s.message → slip_of_pending t ≡ slip_of files terms now.start (handled_next files terms arrivals a))
-    → is_back files (Pending t) ≡ true → next.start ≡ now.start
+    → is_back files (Pending t) ≡ true → SameCapture now next
     → Settled files terms tariff lookups old next after (pending_replies ++ t ∷ []) (k + 1)
-settled_more {X} files terms tariff lookups old now next rest after pending_replies t k s settled steps stands slip ready start = rw (one_more k) (record {
+settled_more {X} files terms tariff lookups old now next rest after pending_replies t k s settled steps stands slip ready same = rw (one_more k) (record {
   count = (let e = settled.count in let l = length-append pending_replies (t ∷ []) in omega (arith, e, l));
   rest_is = next_rest lookups k s after (sym steps ∙ settled.rest_is);
   stands = λ arrivals more begun looked_up.
@@ -133,10 +133,10 @@ settled_more {X} files terms tariff lookups old now next rest after pending_repl
         map-append (slip_of_pending {X = X}) pending_replies (t ∷ []),
         settled.slips arrivals more begun looked_up,
         own,
-        settled.start,
+        settled.same.0,
       ) refl);
   ready = list_all-push (λ t. is_back files (Pending t)) pending_replies t settled.ready ready;
-  start = start ∙ settled.start;
+  same = (same.0 ∙ settled.same.0, same.1 ∙ settled.same.1);
 })
   where
     next_rest : {A : Type 0} (xs : List A) (k : ℕ) (x : A) (after : List A) → x ∷ after ≡ drop k xs → after ≡ drop (suc k) xs
@@ -165,7 +165,7 @@ settled_none {X} files terms tariff lookups old rest pending_replies k none star
   stands = λ arrivals more stands looked_up. rw (append-nil arrivals) stands;
   slips = λ arrivals more stands looked_up. refl;
   ready = refl;
-  start = refl;
+  same = (refl, refl);
 })
 
 -- all are

@@ -100,8 +100,10 @@ row_is X files terms start arrivals a origin tick charge found slip pools row fr
 
 -- the decider has seen the same messages after it was asked what a request finds
 pub stands_still : (files : List File) (terms : Terms) (arrivals : List Arrival) (decider : Decider) (controller : Standing) → StandsAsBefore decider.controller controller → Counted files terms arrivals decider
-    → Counted files terms arrivals (record { start = decider.start; controller = controller; totals = decider.totals })
+    → Counted files terms arrivals (record { start = decider.start; most = decider.most; controller = controller; totals = decider.totals })
 stands_still files terms arrivals decider controller same stands = record {
+  early = stands.early;
+  most = stands.most;
   station = same.station ∙ stands.station;
   fits = same.fits (offers_of files terms arrivals) stands.fits;
   totals = stands.totals;

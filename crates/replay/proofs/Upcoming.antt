@@ -1,6 +1,7 @@
 -- Messages that come next: those of the next arrivals, served part after part.
 use Rattle.std.proofs.Common.{◌≡◌, ℕ, suc, zero, ◌+◌, ◌<◌, ◌≤◌, ◌==◌, true, List, [], ◌∷◌, ◌++◌, length, take, drop, map, get_or, Option, Result, Ok, Err, refl, sym, ap, ◌∙◌, arith, append-nil, append_assoc}
 use Rattle.std.specs.Prelude.{flat_map, IfErr, OnOk, OnErr}
+use Rattle.std.specs.Result.{IsErrAnd}
 use Rattle.std.proofs.lemmas.List.{length-append, length-map, length-take-le, drop-drop}
 use Rattle.std.proofs.lemmas.Grind.{flat_map-append, common_steps}
 use Rattle.std.proofs.Math.Seq.{take-append_seam, drop-append_seam}
@@ -12,7 +13,8 @@ use Rattle.cost_model.specs.Reference.{Tariff}
 use Rattle.responses.specs.Reference.{record_text}
 use Rattle.reference.specs.Reference.{Terms, Handled, slip_of, replies_of, reply_of}
 use Rattle.arrivals.specs.Reference.{Arrival}
-use Rattle.replay.specs.Serving.{DeciderAfter, records_after, Written, WrittenInPart}
+use Rattle.replay.specs.Serving.{DeciderAfter, SameCapture, records_after, Written, WrittenInPart}
+use Rattle.replay.specs.Steps.{DecidesComing}
 use Rattle.replay.specs.Fronts.{front_value}
 use Rattle.replay.specs.Backs.{slip_of_pending, reply_to}
 use Rattle.arrivals.specs.Batches.{joined}
@@ -174,9 +176,18 @@ pub ok_more : {T : Type 0} (r : Result T PassFault) (P Q : Type 0) → (P → Q)
 ok_more (Ok x) P Q more h = more h
 ok_more (Err f) P Q more h = tt
 
+pub ok_both : {T : Type 0} (r : Result T PassFault) (P Q R : Type 0) → (P → Q → R) → OnOk r P → OnOk r Q → OnOk r R
+ok_both (Ok x) P Q R more p q = more p q
+ok_both (Err f) P Q R more p q = tt
+
 pub ok_all : {T : Type 0} (r : Result T PassFault) (P : Type 0) → P → OnOk r P
 ok_all (Ok x) P h = h
 ok_all (Err f) P h = tt
+
+-- nothing is to be shown of a fault that `?` has passed on
+pub err_ok : {T : Type 0} (r : Result T PassFault) (P : Type 0) (Q : PassFault → Type 0) → IsErrAnd r Q → OnOk r P
+err_ok (Ok x) P Q h = absurd h
+err_ok (Err f) P Q h = tt
 
 pub err_more : {T : Type 0} (r : Result T PassFault) (P Q : Type 0) → (P → Q) → OnErr r P → OnErr r Q
 err_more (Ok x) P Q more h = tt
@@ -201,7 +212,7 @@ pub record Served (files : List File) (terms : Terms) (messages : List Incoming)
   pub rest_is : joined rest ≡ drop count messages
   pub stands : (arrivals more : List Arrival) → Upcoming files terms arrivals more messages old → DeciderAfter files terms (arrivals ++ take count more) now
   pub written : (arrivals more : List Arrival) → Upcoming files terms arrivals more messages old → Written files terms old.start arrivals (take count more) before after
-  pub start : now.start ≡ old.start
+  pub same : SameCapture old now
 
 pub served_none : (files : List File) (terms : Terms) (messages : List Incoming) (old : Decider) (before : Option (List ℕ)) (rest : List (List Incoming)) → joined rest ≡ messages → Served files terms messages old old before before rest
 served_none files terms messages old before rest e = record {
@@ -210,7 +221,7 @@ served_none files terms messages old before rest e = record {
   rest_is = e;
   stands = λ arrivals more up. rw (append-nil arrivals) up.stands;
   written = λ arrivals more up. written_none files terms old.start arrivals before;
-  start = refl;
+  same = (refl, refl);
 }
 
 -- what comes next of the messages
@@ -268,22 +279,21 @@ taken_after k n m more le = take_add k m more ∙ ap (λ xs. take k more ++ xs) 
     take_take (suc m) (suc n) (x ∷ xs) le = ap (λ ys. x ∷ ys) (take_take m n xs (omega (arith, le)))
 
 pub served_more : (files : List File) (terms : Terms) (messages part : List Incoming) (old now next : Decider) (before after later : Option (List ℕ)) (rest following : List (List Incoming))
-    → Served files terms messages old now before after rest → rest ≡ part ∷ following → next.start ≡ now.start
-    → ((arrivals more : List Arrival) → Upcoming files terms arrivals more part now → DeciderAfter files terms (arrivals ++ more) next)
+    → Served files terms messages old now before after rest → rest ≡ part ∷ following → DecidesComing files terms part now next
     → ((arrivals more : List Arrival) → Upcoming files terms arrivals more part now → Written files terms now.start arrivals more after later)
     → Served files terms messages old next before later following
-served_more files terms messages part old now next before after later rest following s steps start stands written =
+served_more files terms messages part old now next before after later rest following s steps decides written =
     let n = length part in record {
       count = s.count + n;
       below = part_fits messages part rest following s.count s.below s.rest_is steps;
       rest_is = sym (drop-append_seam part (joined following)) ∙ ap (drop n) (ap joined (sym steps) ∙ s.rest_is) ∙ drop-drop n s.count messages;
       stands = λ arrivals more up.
           rw (take_add s.count n more, ← append_assoc arrivals (take s.count more) (take n (drop s.count more)))
-          (stands (arrivals ++ take s.count more) (take n (drop s.count more)) (next_come files terms messages part old now before after rest following arrivals more s steps up));
+          (decides.stands (arrivals ++ take s.count more) (take n (drop s.count more)) (next_come files terms messages part old now before after rest following arrivals more s steps up));
       written = λ arrivals more up.
           rw (take_add s.count n more) (written_more files terms old.start arrivals (take s.count more) (take n (drop s.count more)) before after later (s.written arrivals more up)
-          (rw s.start at (written (arrivals ++ take s.count more) (take n (drop s.count more)) (next_come files terms messages part old now before after rest following arrivals more s steps up))));
-      start = start ∙ s.start;
+          (rw s.same.0 at (written (arrivals ++ take s.count more) (take n (drop s.count more)) (next_come files terms messages part old now before after rest following arrivals more s steps up))));
+      same = (decides.same.0 ∙ s.same.0, decides.same.1 ∙ s.same.1);
     }
 
 -- all are served

@@ -4,9 +4,11 @@ pub mod Floors
 pub mod Fronts
 pub mod Groups
 pub mod Chunks
+pub mod Loads
 pub mod Replayed
 pub mod Rowing
 pub mod Serving
+pub mod States
 pub mod Steps
 pub mod Totals
 pub mod Waiting

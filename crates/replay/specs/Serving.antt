@@ -8,7 +8,7 @@ use Rattle.captures.specs.declared.record.Record.TheVariants.{Piece, End, Tier}
 use Rattle.responses.specs.Reference.{record_text}
 use Rattle.admission.specs.After.{ControllerAfter}
 use Rattle.admission.specs.Standing.{station_of}
-use Rattle.captures.specs.Reference.{used_once}
+use Rattle.captures.specs.Reference.{max_start, used_once}
 use Rattle.reference.specs.Reference.{station_for, Terms, ArrivedCapture, offers_of, handled_after, replies_of}
 use Rattle.reference.specs.Outcomes.{outcome_of}
 use Rattle.arrivals.specs.Reference.{Arrival, AreArrivals}
@@ -38,6 +38,8 @@ IsOnTime speed tick clock = (counted : ℕ) → CountsBy speed tick counted → 
 
 -- these messages were decided on and counted
 pub record Counted (files : List File) (terms : Terms) (arrivals : List Arrival) (decider : Decider) : Type 0 where
+  pub early : decider.start ≤ max_start
+  pub most : decider.most ≤ most_messages
   pub station : station_of decider.controller ≡ (station_for terms)
   pub fits : ControllerAfter (offers_of files terms arrivals) decider.controller
   pub totals : decider.totals ≡ totals_of files terms arrivals
@@ -47,6 +49,10 @@ pub record Counted (files : List File) (terms : Terms) (arrivals : List Arrival)
 pub record DeciderAfter (files : List File) (terms : Terms) (arrivals : List Arrival) (decider : Decider) : Type 0 where
   pub counted : Counted files terms arrivals decider
   pub clock : (tick : ℕ) → AreBy tick arrivals → IsOnTime terms.speed tick decider.controller.clock
+
+-- the capture begins as before, and as many of its messages are answered
+abbrev pub SameCapture : Decider → Decider → Type 0
+SameCapture before after = (after.start ≡ before.start) × (after.most ≡ before.most)
 
 -- none of them came later than this record
 abbrev pub IsLater : Record → List Arrival → Type 0

@@ -2,18 +2,24 @@
 -- messages of a piece, those that come next in a batch, and the next records.
 use Rattle.std.specs.Prelude.{◌≡◌, ℕ, ◌+◌, ◌<◌, ◌≤◌, List, [], ◌∷◌, ◌++◌, length, map, take, Option}
 use Rattle.captures.specs.declared.record.Record.{Record}
+use Rattle.captures.specs.declared.version.Version.{Version}
+use Rattle.captures.specs.Reference.{IsRecord, max_tick}
+use Rattle.captures.specs.Captures.{size_of, sizes_of}
+use Rattle.captures.specs.CaptureFaults.{longest_text}
 use Rattle.http_requests.specs.declared.messages.Message.{Message}
 use Rattle.http_requests.specs.declared.messages.Meaning.{Meaning}
 use Rattle.arrivals.specs.Reference.{Arrival}
 use Rattle.arrivals.specs.Connections.{arrivals_with, AreTiers}
 use Rattle.arrivals.specs.QueueStates.{QueueState}
-use Rattle.arrivals.specs.declared.connections.Connection.{Connection}
 use Rattle.arrivals.specs.declared.incoming.Incoming.{Incoming}
 use Rattle.arrivals.specs.declared.incoming.Origin.{Origin}
 use Rattle.reference.specs.Reference.{Terms, slip_of, handled_after}
 use Rattle.replay.specs.Serving.{
+  AreBy,
   Counted,
   DeciderAfter,
+  IsLater,
+  SameCapture,
   Serves,
   WritesMore,
   WritesFull,
@@ -23,19 +29,31 @@ use Rattle.replay.specs.Serving.{
   ServesInPart,
   Written,
   WrittenInPart,
+  most_messages,
 }
-use Rattle.reference.specs.Texts.{Texts, Wrote, WroteInPart}
-use Rattle.replay.specs.Waiting.{ComeNext, Upcoming, connections_of}
+use Rattle.reference.specs.Texts.{Texts, AreTexts, Wrote, WroteInPart}
+use Rattle.replay.specs.States.{EngineState}
+use Rattle.replay.specs.Waiting.{ComeNext, Upcoming, Waiting, connections_of}
 use Rattle.replay.specs.Backs.{slip_of_pending}
 use Rattle.replay.specs.declared.pending.PendingReply.{PendingReply}
 use Rattle.replay.specs.declared.decider.Decider.{Decider}
 use Rattle.paths.specs.declared.file.File.{File}
 
+-- messages may come from there next
+pub record MayCome (files : List File) (terms : Terms) (origin : Origin) (decider : Decider) : Type 0 where
+  pub tick : origin.tick ≤ max_tick
+  pub tier : origin.tier < 4
+  pub arrivals : List Arrival
+  pub stands : DeciderAfter files terms arrivals decider
+  pub by : AreBy origin.tick arrivals
+
 -- the next message, of this origin and meaning, was decided on
-abbrev pub DecidesNext : List File → Terms → Origin → Meaning → Decider → Decider → Type 0
-DecidesNext files terms origin what before after = (arrivals : List Arrival) (a : Arrival)
-    → Counted files terms arrivals before
-    → a.origin ≡ origin → a.message.what ≡ what → DeciderAfter files terms (arrivals ++ a ∷ []) after
+pub record DecidesNext (files : List File) (terms : Terms) (origin : Origin) (what : Meaning)
+    (before after : Decider) : Type 0 where
+  pub same : SameCapture before after
+  pub number : after.totals.answered ≡ before.totals.answered + 1
+  pub stands : (arrivals : List Arrival) (a : Arrival) → Counted files terms arrivals before
+      → a.origin ≡ origin → a.message.what ≡ what → DeciderAfter files terms (arrivals ++ a ∷ []) after
 
 -- its text was written, and a prefix of that was
 abbrev pub WritesNext : Texts → List File → Terms → Origin → Meaning → Decider → Option (List ℕ) → Option (List ℕ)
@@ -51,10 +69,12 @@ WritesNextInPart t files terms origin what decider old new = (arrivals : List Ar
     → WroteInPart t decider.start arrivals (a ∷ []) old new
 
 -- the messages of a piece from this origin were decided on
-abbrev pub DecidesPiece : List File → Terms → Origin → List Message → Decider → Decider → Type 0
-DecidesPiece files terms origin messages before after = (arrivals : List Arrival) (place id : ℕ)
-    → DeciderAfter files terms arrivals before → DeciderAfter files terms
-    (arrivals ++ arrivals_with place id origin messages) after
+pub record DecidesPiece (files : List File) (terms : Terms) (origin : Origin) (messages : List Message)
+    (before after : Decider) : Type 0 where
+  pub same : SameCapture before after
+  pub within : after.totals.answered ≤ after.most
+  pub stands : (arrivals : List Arrival) (place id : ℕ) → DeciderAfter files terms arrivals before
+      → DeciderAfter files terms (arrivals ++ arrivals_with place id origin messages) after
 
 -- their text was written, and a prefix of that was
 abbrev pub WritesPiece : Texts → List File → Terms → Origin → List Message → Decider → Option (List ℕ) → Option (List ℕ)
@@ -70,37 +90,54 @@ WritesPieceInPart t files terms origin messages decider old new = (arrivals : Li
     → DeciderAfter files terms arrivals decider → WroteInPart t decider.start arrivals
     (arrivals_with place id origin messages) old new
 
--- the next record was read, and the messages that arrived with it were decided on and written
-abbrev pub AnswersRecord : Texts → List File → Terms → Record → List ℕ → List Connection → Decider → List Connection
-    → Decider
-    → Option (List ℕ) → Option (List ℕ) → Type 0
-AnswersRecord t files terms next tiers connections decider connections-after decider-after old new =
-    (records : List Record) (arrivals : List Arrival) → AreTiers records tiers
-    → Serves files terms records arrivals connections decider
-    → WritesMore t files terms records arrivals (next ∷ []) connections-after decider-after old new
+-- this record comes next, after others whose messages were answered
+pub record MayAnswer (t : Texts) (files : List File) (terms : Terms) (next : Record)
+    (state : EngineState) : Type 0 where
+  pub laws : AreTexts t
+  pub version : Version
+  pub rules : IsRecord version next
+  pub records : List Record
+  pub arrivals : List Arrival
+  pub serves : Serves files terms records arrivals state.connections state.decider
+  pub small : sizes_of records + size_of next ≤ longest_text
+  pub later : IsLater next arrivals
+  pub within : state.decider.totals.answered ≤ state.decider.most
+
+-- it was read, and the messages that arrived with it were decided on and written
+pub record AnswersRecord (t : Texts) (files : List File) (terms : Terms) (next : Record) (before after : EngineState)
+    (old new : Option (List ℕ)) : Type 0 where
+  pub same : SameCapture before.decider after.decider
+  pub within : after.decider.totals.answered ≤ after.decider.most
+  pub tiers_are : (records : List Record) → AreTiers records before.tiers → AreTiers (records ++ next ∷ []) after.tiers
+  pub serves : (records : List Record) (arrivals : List Arrival) → AreTiers records before.tiers
+      → Serves files terms records arrivals before.connections before.decider
+      → WritesMore t files terms records arrivals (next ∷ []) after.connections after.decider old new
 
 -- they are more than the most that are answered, and those within it were written; a prefix of the text of those
 -- within was written
-abbrev pub FillsWithRecord : ℕ → Texts → List File → Terms → Record → List ℕ → List Connection → Decider
-    → Option (List ℕ)
-    → Option (List ℕ) → Type 0
-FillsWithRecord most t files terms next tiers connections decider old new = (records : List Record)
-    (arrivals : List Arrival)
-    → AreTiers records tiers → Serves files terms records arrivals connections decider
-    → WritesFull t most decider.start records arrivals (next ∷ []) old new
+abbrev pub FillsWithRecord : Texts → List File → Terms → Record → EngineState → Option (List ℕ) → Option (List ℕ)
+    → Type 0
+FillsWithRecord t files terms next state old new = (records : List Record) (arrivals : List Arrival)
+    → AreTiers records state.tiers → Serves files terms records arrivals state.connections state.decider
+    → WritesFull t state.decider.most state.decider.start records arrivals (next ∷ []) old new
 
-abbrev pub AnswersRecordInPart : ℕ → Texts → List File → Terms → Record → List ℕ → List Connection → Decider
-    → Option (List ℕ)
-    → Option (List ℕ) → Type 0
-AnswersRecordInPart most t files terms next tiers connections decider old new = (records : List Record)
-    (arrivals : List Arrival)
-    → AreTiers records tiers → Serves files terms records arrivals connections decider
-    → WritesInPart t most decider.start records arrivals (next ∷ []) old new
+abbrev pub AnswersRecordInPart : Texts → List File → Terms → Record → EngineState → Option (List ℕ) → Option (List ℕ)
+    → Type 0
+AnswersRecordInPart t files terms next state old new = (records : List Record) (arrivals : List Arrival)
+    → AreTiers records state.tiers → Serves files terms records arrivals state.connections state.decider
+    → WritesInPart t state.decider.most state.decider.start records arrivals (next ∷ []) old new
+
+-- these messages of a batch come next, and are within the limit of messages
+abbrev pub MayServe : List File → Terms → List Incoming → Decider → Type 0
+MayServe files terms messages decider = (arrivals : List Arrival) × (more : List Arrival)
+    × Upcoming files terms arrivals more messages decider × (length arrivals + length more ≤ most_messages)
 
 -- the messages that come next in a batch were decided on
-abbrev pub DecidesComing : List File → Terms → List Incoming → Decider → Decider → Type 0
-DecidesComing files terms messages before after = (arrivals more : List Arrival)
-    → Upcoming files terms arrivals more messages before → DeciderAfter files terms (arrivals ++ more) after
+pub record DecidesComing (files : List File) (terms : Terms) (messages : List Incoming)
+    (before after : Decider) : Type 0 where
+  pub same : SameCapture before after
+  pub stands : (arrivals more : List Arrival) → Upcoming files terms arrivals more messages before
+      → DeciderAfter files terms (arrivals ++ more) after
 
 -- these are their replies, which are still to be written
 abbrev pub ArePending : {X : Type 0} → List File → Terms → List Incoming → Decider → List (PendingReply X) → Type 0
@@ -132,36 +169,43 @@ WritesFirstInPart i files terms messages decider old new = (arrivals more : List
 
 -- they are more than the most that are answered, n, and the replies to those within it were written; a prefix of the
 -- replies to those within it was
-abbrev pub FillsWithComing : ℕ → List File → Terms → List Incoming → Decider → Option (List ℕ) → Option (List ℕ) → ℕ
+abbrev pub FillsWithComing : List File → Terms → List Incoming → Decider → Option (List ℕ) → Option (List ℕ) → ℕ
     → Type 0
-FillsWithComing most files terms messages decider old new n = (n ≡ most) × (i : ℕ) × (i < length messages)
-    × (decider.totals.answered + i ≡ most) × WritesFirst i files terms messages decider old new
+FillsWithComing files terms messages decider old new n = (n ≡ decider.most) × (i : ℕ) × (i < length messages)
+    × (decider.totals.answered + i ≡ decider.most) × WritesFirst i files terms messages decider old new
 
-abbrev pub AnswersComingInPart : ℕ → List File → Terms → List Incoming → Decider → Option (List ℕ) → Option (List ℕ)
+abbrev pub AnswersComingInPart : List File → Terms → List Incoming → Decider → Option (List ℕ) → Option (List ℕ)
     → Type 0
-AnswersComingInPart most files terms messages decider old new = (i : ℕ) × (i ≤ length messages)
-    × (decider.totals.answered + i ≤ most) × WritesFirstInPart i files terms messages decider old new
+AnswersComingInPart files terms messages decider old new = (i : ℕ) × (i ≤ length messages)
+    × (decider.totals.answered + i ≤ decider.most) × WritesFirstInPart i files terms messages decider old new
 
--- the records whose pieces wait at the queues were read, and the messages that arrived with them were answered
-abbrev pub AnswersBatch : List File → Terms → List QueueState → List Origin → Decider → List QueueState → Decider
-    → Option (List ℕ)
-    → Option (List ℕ) → Type 0
-AnswersBatch files terms queues origins decider queues-after decider-after old new = (records rs : List Record)
-    (arrivals : List Arrival) → ComeNext files terms records rs arrivals queues origins decider
-    → ServesMore files terms records arrivals rs (connections_of queues-after) decider-after old new
+-- the records whose pieces wait at the queues come next
+abbrev pub MayServeBatch : List File → Terms → List QueueState → List Origin → Decider → Type 0
+MayServeBatch files terms queues origins decider = (decider.totals.answered ≤ decider.most)
+    × (records : List Record) × (rs : List Record) × (arrivals : List Arrival)
+    × ComeNext files terms records rs arrivals queues origins decider
+
+-- they were read, and the messages that arrived with them were answered
+pub record AnswersBatch (files : List File) (terms : Terms) (queues : List QueueState) (origins : List Origin)
+    (decider : Decider) (queues-after : List QueueState) (decider-after : Decider)
+    (old new : Option (List ℕ)) : Type 0 where
+  pub same : SameCapture decider decider-after
+  pub within : decider-after.totals.answered ≤ decider-after.most
+  pub idle : Waiting [] queues-after
+  pub serves : (records rs : List Record) (arrivals : List Arrival)
+      → ComeNext files terms records rs arrivals queues origins decider
+      → ServesMore files terms records arrivals rs (connections_of queues-after) decider-after old new
 
 -- they are more than the most that are answered, and those within it were; a prefix of the replies to those within
 -- was written
-abbrev pub FillsWithBatch : ℕ → List File → Terms → List QueueState → List Origin → Decider → Option (List ℕ)
+abbrev pub FillsWithBatch : List File → Terms → List QueueState → List Origin → Decider → Option (List ℕ)
     → Option (List ℕ) → Type 0
-FillsWithBatch most files terms queues origins decider old new = (records rs : List Record) (arrivals : List Arrival)
+FillsWithBatch files terms queues origins decider old new = (records rs : List Record) (arrivals : List Arrival)
     → ComeNext files terms records rs arrivals queues origins decider
-    → ServesFull files terms most decider.start records arrivals rs old new
+    → ServesFull files terms decider.most decider.start records arrivals rs old new
 
-abbrev pub AnswersBatchInPart : ℕ → List File → Terms → List QueueState → List Origin → Decider → Option (List ℕ)
-    → Option (List ℕ)
-    → Type 0
-AnswersBatchInPart most files terms queues origins decider old new =
-    (records rs : List Record) (arrivals : List Arrival)
+abbrev pub AnswersBatchInPart : List File → Terms → List QueueState → List Origin → Decider → Option (List ℕ)
+    → Option (List ℕ) → Type 0
+AnswersBatchInPart files terms queues origins decider old new = (records rs : List Record) (arrivals : List Arrival)
     → ComeNext files terms records rs arrivals queues origins decider
-    → ServesInPart files terms most decider.start records arrivals rs old new
+    → ServesInPart files terms decider.most decider.start records arrivals rs old new

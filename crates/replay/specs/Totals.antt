@@ -76,4 +76,5 @@ pub record Decides (offers next : List Offer) (old new : Decider) (away : Bool) 
   pub is_away : away ≡ list_any (rejects (station_of old.controller) offers) next
   pub totals : new.totals ≡ decided_totals old.totals (samples_of (station_of old.controller) (offers ++ next)) away
   pub start : new.start ≡ old.start
+  pub most : new.most ≡ old.most
   pub clock : new.controller.clock ≡ tick_from old.controller.clock next

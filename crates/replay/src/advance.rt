@@ -1,36 +1,31 @@
 //! The steps of the staged engine: the next record, or the next batch, is read and answered.
 
-ghost use Rattle.std.specs.Prelude.{◌≡◌, ◌<◌, ◌≤◌, ◌^◌, ◌⊎◌, [], ℕ, List, Option, true, IfOk, IfErr, OnOk};
+ghost use Rattle.std.specs.Prelude.{◌≡◌, ◌<◌, ◌^◌, ◌⊎◌, [], true, IfOk, IfErr, OnOk};
 ghost use Rattle.devices.specs.Devices.{CanFail, CountsBy};
-ghost use Rattle.captures.specs.Reference.{max_start};
 ghost use Rattle.captures.specs.Readers.{progress_of, device_of, loan_of};
-ghost use Rattle.captures.specs.declared.record.Record.{Record as ARecord};
-ghost use Rattle.captures.specs.declared.version.Version.{Version as AVersion};
 ghost use Rattle.captures.specs.Passes.{AttributesReads, leaves_reads_unreported, reader_failures, writer_failures};
-ghost use Rattle.arrivals.specs.Reference.{Arrival};
-ghost use Rattle.reference.specs.Outcomes.{IfTooMany, IfCutShort, IsOwn, Leaves};
+ghost use Rattle.reference.specs.Outcomes.{IfTooMany, IfCutShort, IsOwn};
 ghost use Rattle.reference.specs.Texts.{reply_texts};
 ghost use Rattle.replay.specs.Floors.{served_by};
-ghost use Rattle.replay.specs.Between.{Between, Stepped};
+ghost use Rattle.replay.specs.Between.{GoesOn, IsBetween, StopsFrom, place_of};
 ghost use Rattle.replay.specs.Chunks.{AreFloorSteps};
-ghost use Rattle.replay.specs.Steps.{AnswersBatch, FillsWithBatch, AnswersBatchInPart};
-ghost use Rattle.replay.specs.Waiting.{ComeNext, Waiting};
+ghost use Rattle.replay.specs.Steps.{AnswersBatch, AnswersBatchInPart, FillsWithBatch, MayServeBatch};
+ghost use Rattle.replay.specs.Waiting.{Waiting, connections_of};
 
+use crate::ReplayFault;
 use crate::chunks::{Chunk, ChunkValue};
 use crate::decider::Decider;
+use crate::engine::{Engine, answer_next};
 use crate::floors::Floors;
+use crate::load::Load;
 use crate::parts::serve_parts;
-use crate::plain::answer_record;
 use crate::replies::Replies;
 use crate::serving::Pricing;
-use crate::{MAX_MESSAGES, ReplayFault};
-use arrivals::{ConnectionQueues, Ending, Origin, Tiers, parts_of, read_batch};
+use crate::source::Source;
+use arrivals::{ConnectionQueues, Ending, Origin, parts_of, read_batch};
 use captures::{CaptureReader, Record};
 use devices::Output;
-use http_requests::Message;
-use page_cache::PageCache;
 use paths::Tree;
-use responses::HeadRenderer;
 use stage_graph::{Carries, Gate};
 use std::io::{Read, Write};
 use std::mem::replace;
@@ -49,39 +44,33 @@ fn serve_batch<
     W: Write,
 >(
     floors: &Floors<'_, '_, F, K, C, Q, G, T>,
+    load: &mut Load,
     queues: ConnectionQueues,
     origins: &[Origin],
     decider: &mut Decider,
     writer: &mut Output<W>,
 ) -> Result<ConnectionQueues, ReplayFault>
     requires can { AreFloorSteps F.files K.tariff C.step C.content C.count }
-    requires start { decider.old.start ≤ max_start }
-    requires next { (records : List ARecord) × (rs : List ARecord) × (arrivals : List Arrival)
-        × ComeNext F.files (served_by floors.now) records rs arrivals queues origins.now decider.old }
-    requires limit { (decider.old.totals.answered ≤ floors.now.most)
-        × (floors.now.most ≤ MAX_MESSAGES) }
-    requires failures { CanFail writer.old }
-    ensures serves { IfOk result
+    requires next { MayServeBatch F.files (served_by floors.now) queues origins.now decider.old }
+    requires device { CanFail writer.old }
+    ensures ok { IfOk result
         (λ after. AnswersBatch F.files (served_by floors.now) queues origins.now decider.old
         after decider.new writer.old.bytes writer.new.bytes) }
-    ensures idle { IfOk result (Waiting []) }
-    ensures start { OnOk result (decider.new.start ≡ decider.old.start) }
-    ensures within { OnOk result (decider.new.totals.answered ≤ floors.now.most) }
-    ensures many { IfErr result (λ f. IfTooMany f (λ n. (n ≡ floors.now.most)
-        × FillsWithBatch floors.now.most F.files (served_by floors.now) queues origins.now decider.old
+    ensures stops { IfErr result (λ f. IfTooMany f (λ n. (n ≡ decider.old.most)
+        × FillsWithBatch F.files (served_by floors.now) queues origins.now decider.old
+        writer.old.bytes writer.new.bytes))
+        × IfErr result (λ f. IfCutShort f ((writer.new.bytes ≡ writer.old.bytes)
+        ⊎ AnswersBatchInPart F.files (served_by floors.now) queues origins.now decider.old
         writer.old.bytes writer.new.bytes)) }
-    ensures part { IfErr result (λ f. IfCutShort f ((writer.new.bytes ≡ writer.old.bytes)
-        ⊎ AnswersBatchInPart floors.now.most F.files (served_by floors.now) queues origins.now decider.old
-        writer.old.bytes writer.new.bytes)) }
-    ensures failures { CountsBy writer_failures writer.old.failures writer.new.failures result }
-    ensures own { IfErr result IsOwn }
+    ensures faults { CountsBy writer_failures writer.old.failures writer.new.failures result
+        × IfErr result IsOwn }
 {
     let serving = floors.serving;
     let alloc = serving.server.alloc;
     let mut queues = queues.cut(serving.rt, alloc)?;
     let pieces = queues.merge(alloc, origins)?;
     let parts = parts_of(alloc, pieces)?;
-    serve_parts(floors, parts, decider, writer)?;
+    serve_parts(floors, load, parts, decider, writer)?;
     Ok(queues)
 }
 
@@ -93,46 +82,57 @@ fn serve_next_batch<
     C: Carries<Chunk = Chunk<F>, Value = ChunkValue, Register = Q>,
     G: Gate,
     T: Threads + Wait + Sync,
+    S,
     R: Read,
     W: Write,
 >(
     floors: &Floors<'_, '_, F, K, C, Q, G, T>,
+    load: &mut Load,
+    engine: &mut Engine<S, ConnectionQueues>,
     capture: &mut CaptureReader<'_, R>,
-    queues: &mut ConnectionQueues,
-    tiers: &mut Tiers,
-    decider: &mut Decider,
     writer: &mut Output<W>,
 ) -> Result<bool, ReplayFault>
     requires can { AreFloorSteps F.files K.tariff C.step C.content C.count }
-    requires between { (version : AVersion) × (text : Option (List ℕ)) × (begun : Option (List ℕ))
-        × Between F.files (served_by floors.now) floors.now.most version text begun
-        (progress_of capture.old) (device_of capture.old).bytes tiers.old queues.old decider.old writer.old.bytes }
+    requires between { IsBetween
+        (reply_texts F.files (served_by floors.now)) F.files (served_by floors.now)
+        (place_of connections_of capture.old engine.old writer.old.bytes)
+        × Waiting [] engine.old.connections }
     requires devices { CanFail (device_of capture.old) × CanFail writer.old }
-    ensures on { IfOk result (λ more. (version : AVersion) (text begun : Option (List ℕ))
-        → Between F.files (served_by floors.now) floors.now.most version text begun
-        (progress_of capture.old) (device_of capture.old).bytes tiers.old queues.old decider.old writer.old.bytes
-        → Stepped more F.files (served_by floors.now) floors.now.most version text begun
-        (progress_of capture.new) (device_of capture.new).bytes tiers.new queues.new decider.new writer.new.bytes) }
-    ensures fault { IfErr result (λ f. (version : AVersion) (text begun : Option (List ℕ))
-        → Between F.files (served_by floors.now) floors.now.most version text begun
-        (progress_of capture.old) (device_of capture.old).bytes tiers.old queues.old decider.old writer.old.bytes
-        → Leaves (reply_texts F.files (served_by floors.now)) text (device_of capture.new).bytes
-        begun writer.new.bytes f) }
-    ensures capacity { IfOk result (λ more. more ≡ true
-        → (progress_of capture.new).capacity < (progress_of capture.old).capacity) }
-    ensures reads { AttributesReads reader_failures leaves_reads_unreported
-        (device_of capture.old).failures (device_of capture.new).failures result }
-    ensures writes { CountsBy writer_failures writer.old.failures writer.new.failures result }
-    ensures same { loan_of capture.new ≡ loan_of capture.old }
+    ensures on { IfOk result (λ more. Waiting [] engine.new.connections
+        × (more ≡ true → (progress_of capture.new).capacity < (progress_of capture.old).capacity)
+        × GoesOn (reply_texts F.files (served_by floors.now)) F.files (served_by floors.now)
+        (place_of connections_of capture.old engine.old writer.old.bytes) more
+        (place_of connections_of capture.new engine.new writer.new.bytes)) }
+    ensures fault { IfErr result
+        (StopsFrom (reply_texts F.files (served_by floors.now)) F.files (served_by floors.now)
+        (place_of connections_of capture.old engine.old writer.old.bytes)
+        (place_of connections_of capture.new engine.new writer.new.bytes)) }
+    ensures devices { (loan_of capture.new ≡ loan_of capture.old)
+        × AttributesReads reader_failures leaves_reads_unreported
+        (device_of capture.old).failures (device_of capture.new).failures result
+        × CountsBy writer_failures writer.old.failures writer.new.failures result }
 {
     let serving = floors.serving;
     let alloc = serving.server.alloc;
     let settings = serving.server.settings;
     let most = settings.batch();
-    let batch = read_batch(alloc, capture, most, queues, tiers)?;
-    let waiting = replace(queues, ConnectionQueues::new(alloc));
-    *queues = serve_batch(floors, waiting, &batch.origins, decider, writer)?;
-    floors.load.judge(most, batch.origins.len());
+    let batch = read_batch(
+        alloc,
+        capture,
+        most,
+        &mut engine.connections,
+        &mut engine.tiers,
+    )?;
+    let waiting = replace(&mut engine.connections, ConnectionQueues::new(alloc));
+    engine.connections = serve_batch(
+        floors,
+        load,
+        waiting,
+        &batch.origins,
+        &mut engine.decider,
+        writer,
+    )?;
+    load.judge(most, batch.origins.len());
     match batch.ending {
         Ending::More => Ok(true),
         Ending::End => Ok(false),
@@ -140,8 +140,8 @@ fn serve_next_batch<
     }
 }
 
-/// Takes a step: reads the next batch, where floors pay, or the next record, whose messages are answered one after
-/// another; `heads` and `messages` are kept from record to record. Answers whether there may be more.
+/// Takes a step: reads the next batch, where messages go through floors, or the next record, whose messages are
+/// answered one after another. Answers whether there may be more.
 pub(crate) fn serve_next<
     F: Tree,
     K: Pricing,
@@ -149,66 +149,46 @@ pub(crate) fn serve_next<
     C: Carries<Chunk = Chunk<F>, Value = ChunkValue, Register = Q>,
     G: Gate,
     T: Threads + Wait + Sync,
+    S: Source<F>,
     R: Read,
     W: Write,
 >(
     floors: &Floors<'_, '_, F, K, C, Q, G, T>,
-    heads: &mut HeadRenderer,
-    messages: &mut Vec<Message>,
+    load: &mut Load,
+    engine: &mut Engine<S, ConnectionQueues>,
     capture: &mut CaptureReader<'_, R>,
-    queues: &mut ConnectionQueues,
-    tiers: &mut Tiers,
-    decider: &mut Decider,
     writer: &mut Output<W>,
 ) -> Result<bool, ReplayFault>
     requires can { AreFloorSteps F.files K.tariff C.step C.content C.count }
-    requires between { (version : AVersion) × (text : Option (List ℕ)) × (begun : Option (List ℕ))
-        × Between F.files (served_by floors.now) floors.now.most version text begun
-        (progress_of capture.old) (device_of capture.old).bytes tiers.old queues.old decider.old writer.old.bytes }
+    requires between { IsBetween
+        (reply_texts F.files (served_by floors.now)) F.files (served_by floors.now)
+        (place_of connections_of capture.old engine.old writer.old.bytes)
+        × Waiting [] engine.old.connections }
     requires devices { CanFail (device_of capture.old) × CanFail writer.old }
-    ensures on { IfOk result (λ more. (version : AVersion) (text begun : Option (List ℕ))
-        → Between F.files (served_by floors.now) floors.now.most version text begun
-        (progress_of capture.old) (device_of capture.old).bytes tiers.old queues.old decider.old writer.old.bytes
-        → Stepped more F.files (served_by floors.now) floors.now.most version text begun
-        (progress_of capture.new) (device_of capture.new).bytes tiers.new queues.new decider.new writer.new.bytes) }
-    ensures fault { IfErr result (λ f. (version : AVersion) (text begun : Option (List ℕ))
-        → Between F.files (served_by floors.now) floors.now.most version text begun
-        (progress_of capture.old) (device_of capture.old).bytes tiers.old queues.old decider.old writer.old.bytes
-        → Leaves (reply_texts F.files (served_by floors.now)) text (device_of capture.new).bytes
-        begun writer.new.bytes f) }
-    ensures capacity { IfOk result (λ more. more ≡ true
-        → (progress_of capture.new).capacity < (progress_of capture.old).capacity) }
-    ensures reads { AttributesReads reader_failures leaves_reads_unreported
-        (device_of capture.old).failures (device_of capture.new).failures result }
-    ensures writes { CountsBy writer_failures writer.old.failures writer.new.failures result }
-    ensures same { loan_of capture.new ≡ loan_of capture.old }
+    ensures on { IfOk result (λ more. Waiting [] engine.new.connections
+        × (more ≡ true → (progress_of capture.new).capacity < (progress_of capture.old).capacity)
+        × GoesOn (reply_texts F.files (served_by floors.now)) F.files (served_by floors.now)
+        (place_of connections_of capture.old engine.old writer.old.bytes) more
+        (place_of connections_of capture.new engine.new writer.new.bytes)) }
+    ensures fault { IfErr result
+        (StopsFrom (reply_texts F.files (served_by floors.now)) F.files (served_by floors.now)
+        (place_of connections_of capture.old engine.old writer.old.bytes)
+        (place_of connections_of capture.new engine.new writer.new.bytes)) }
+    ensures devices { (loan_of capture.new ≡ loan_of capture.old)
+        × AttributesReads reader_failures leaves_reads_unreported
+        (device_of capture.old).failures (device_of capture.new).failures result
+        × CountsBy writer_failures writer.old.failures writer.new.failures result }
 {
-    if floors.pay() {
-        return serve_next_batch(floors, capture, queues, tiers, decider, writer);
+    if floors.are_used(load.pays) {
+        return serve_next_batch(floors, load, engine, capture, writer);
     }
-    let serving = floors.serving;
-    let server = &serving.server;
+    let server = &floors.serving.server;
     let settings = server.settings;
-    let next = match capture.next_record(server.alloc) {
-        Ok(Some(next)) => next,
-        Ok(None) => return Ok(false),
-        Err(fault) => return Err(ReplayFault::from(fault)),
-    };
-    let mut pages = serving.cache.lock(serving.rt);
-    answer_record::<Replies, F, PageCache<F>, ConnectionQueues, W>(
-        server,
-        heads,
-        &mut *pages,
-        messages,
-        &next,
-        queues,
-        tiers,
-        decider,
-        writer,
-        floors.most,
+    let next = answer_next::<Replies, F, S, ConnectionQueues, R, W>(
+        server, engine, capture, writer,
     )?;
-    if let Record::Piece { .. } = next {
-        floors.load.note_piece(settings.batch(), messages);
+    if let Some(Record::Piece { .. }) = next {
+        load.add_piece(settings.batch(), &engine.messages);
     }
-    Ok(true)
+    Ok(next.is_some())
 }

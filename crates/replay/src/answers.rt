@@ -48,9 +48,11 @@ fn file_answer<F: Tree>(
 ) -> PendingAnswer<F>
     requires snapshot { snapshot.now ≡ F.files }
     requires file { file < length snapshot.now }
-    ensures response_of { response_of result ≡ outcome_answer F.files head since (Outcome.File file) }
+    ensures response_of { response_of result
+        ≡ outcome_answer F.files head since (Outcome.File file) }
     ensures answer { is_answer F.files result ≡ true }
-    ensures can { (only_head head (response_of result) && has_location (response_of result)) ≡ true }
+    ensures can { (only_head head (response_of result)
+        && has_location (response_of result)) ≡ true }
 {
     let mtime = snapshot.mtime(file);
     if is_unmodified(since, mtime) {
@@ -73,7 +75,8 @@ pub(crate) fn outcome_answer<F: Tree>(
     requires is { IsOutcome F.files outcome }
     ensures response_of { response_of result ≡ outcome_answer F.files head since outcome }
     ensures answer { is_answer F.files result ≡ true }
-    ensures can { (only_head head (response_of result) && has_location (response_of result)) ≡ true }
+    ensures can { (only_head head (response_of result)
+        && has_location (response_of result)) ≡ true }
 {
     let status = match outcome {
         Outcome::File(file) => return file_answer(snapshot, head, since, file),

@@ -12,8 +12,9 @@ ghost use Rattle.replay.specs.Fronts.{lookup_of};
 ghost use Rattle.replay.specs.Backs.{response_of, only_head, has_location, is_answer, is_back, slip_of_pending};
 ghost use Rattle.std.specs.List.{list_all};
 ghost use Rattle.captures.specs.Reference.{max_start, max_tick};
+ghost use Rattle.paths.specs.declared.file.File.{File};
 ghost use Rattle.arrivals.specs.Reference.{Arrival};
-ghost use Rattle.replay.specs.Serving.{Counted, DeciderAfter, IsOnTime};
+ghost use Rattle.replay.specs.Serving.{Counted, DeciderAfter, SameCapture, IsOnTime};
 ghost use Rattle.replay.specs.Steps.{DecidesNext};
 ghost use Rattle.replay.specs.Waiting.{AreLookedUp, InTime};
 ghost use Rattle.replay.specs.declared.back.BackState.TheVariants.{Pending};
@@ -37,12 +38,14 @@ use std::alloc::{AllocError, Global};
 pub struct Decider {
     /// When the capture begins, in seconds since 1970-01-01.
     pub start: u64,
+    /// How many messages are answered at most.
+    pub most: usize,
     pub controller: Controller,
     pub totals: Totals,
 }
 
 /// A controller of these settings, which was offered nothing yet.
-pub(crate) fn controller_of(alloc: Global, settings: &Settings) -> Result<Controller, AllocError>
+fn controller_of(alloc: Global, settings: &Settings) -> Result<Controller, AllocError>
     ensures fits { IfOk result (λ controller. ControllerAfter [] controller) }
     ensures station { IfOk result (λ controller. station_of controller
         ≡ station_for settings.now.served) }
@@ -56,6 +59,28 @@ pub(crate) fn controller_of(alloc: Global, settings: &Settings) -> Result<Contro
 }
 
 impl Decider {
+    /// Nothing was decided on yet. The capture begins at `start`, in seconds since 1970-01-01; at most `most` of its
+    /// messages are answered.
+    pub(crate) fn new(
+        alloc: Global,
+        settings: &Settings,
+        start: u64,
+        most: usize,
+    ) -> Result<Decider, AllocError>
+        requires { (start ≤ max_start) × (most ≤ MAX_MESSAGES) }
+        ensures none { IfOk result (λ decider. (files : List File)
+            → DeciderAfter files settings.now.served [] decider) }
+        ensures of { IfOk result (λ decider. (decider.start ≡ start) × (decider.most ≡ most)
+            × (decider.totals.answered ≡ 0)) }
+    {
+        Ok(Decider {
+            start,
+            most,
+            controller: controller_of(alloc, settings)?,
+            totals: Totals::new(alloc),
+        })
+    }
+
     /// Offers a request of `tier` that comes at `tick` and comes to `charge`: whether it is turned away.
     fn offer(&mut self, tier: u8, tick: u64, charge: Charge) -> Result<bool, AllocError>
         requires offers { (offers : List Offer) × ControllerAfter offers self.old.controller
@@ -92,8 +117,8 @@ impl Decider {
         requires offers { (offers : List Offer) × ControllerAfter offers self.old.controller
             × (length offers < MAX_MESSAGES) }
         requires station { station_of self.old.controller ≡ station_for server.now.served }
-        requires clock { self.old.controller.clock ≤ tick_in server.now.served origin }
-        requires origin { (origin.tier < 4) × (origin.tick ≤ MAX_TICK) }
+        requires origin { (origin.tier < 4) × (origin.tick ≤ MAX_TICK)
+            × (self.old.controller.clock ≤ tick_in server.now.served origin) }
         requires lookup { lookup ≡ lookup_of F.files server.now.served.tariff what.now }
         ensures response_of { IfOk result
             (λ answer. (offers : List Offer) → ControllerAfter offers self.old.controller
@@ -138,11 +163,8 @@ pub(crate) fn decide_next<F: Tree>(
     lookup: Lookup,
     decider: &mut Decider,
 ) -> Result<PendingReply<F>, AllocError>
-    requires start { decider.old.start ≤ max_start }
-    requires tick { origin.tick ≤ max_tick }
-    requires tier { origin.tier < 4 }
-    requires few { decider.old.totals.answered < MAX_MESSAGES }
-    requires stands { (arrivals : List Arrival)
+    requires origin { (origin.tick ≤ max_tick) × (origin.tier < 4) }
+    requires stands { (decider.old.totals.answered < MAX_MESSAGES) × (arrivals : List Arrival)
         × Counted F.files server.now.served arrivals decider.old
         × IsOnTime server.now.served.speed origin.tick decider.old.controller.clock }
     requires lookup { lookup ≡ lookup_of F.files server.now.served.tariff what.now }
@@ -153,8 +175,6 @@ pub(crate) fn decide_next<F: Tree>(
         → slip_of_pending t ≡ slip_of F.files server.now.served decider.old.start
         (handled_next F.files server.now.served arrivals a)) }
     ensures ready { IfOk result (λ t. is_back F.files (Pending t) ≡ true) }
-    ensures start { OnOk result (decider.new.start ≡ decider.old.start) }
-    ensures number { OnOk result (decider.new.totals.answered ≡ decider.old.totals.answered + 1) }
 {
     let number = decider.totals.answered;
     let date = decider.start + server.tick(origin) / 1_000_000;
@@ -178,11 +198,11 @@ pub(crate) fn decide_all<F: Tree>(
     lookups: Vec<LookedUp>,
     decider: &mut Decider,
 ) -> Result<Vec<PendingReply<F>>, AllocError>
-    requires start { decider.old.start ≤ max_start }
     requires arrived { (arrivals : List Arrival) × (more : List Arrival)
         × DeciderAfter F.files server.now.served arrivals decider.old
         × AreLookedUp F.files server.now.served.tariff more lookups.items × InTime arrivals more
         × (length arrivals + length more ≤ MAX_MESSAGES) }
+    ensures same { OnOk result (SameCapture decider.old decider.new) }
     ensures stands { OnOk result ((arrivals more : List Arrival)
         → DeciderAfter F.files server.now.served arrivals decider.old
         → AreLookedUp F.files server.now.served.tariff more lookups.items
@@ -194,7 +214,6 @@ pub(crate) fn decide_all<F: Tree>(
         ≡ map (slip_of F.files server.now.served decider.old.start)
         (handled_after F.files server.now.served arrivals more)) }
     ensures ready { IfOk result (λ v. list_all (λ t. is_back F.files (Pending t)) v.items ≡ true) }
-    ensures start { OnOk result (decider.new.start ≡ decider.old.start) }
 {
     let mut pending_replies = Vec::with_capacity(server.alloc, lookups.len())?;
     for looked_up in lookups {

@@ -1,23 +1,21 @@
 //! Messages that the calling thread serves by itself, one after another, without floors.
 
-ghost use Rattle.std.specs.Prelude.{◌≡◌, ◌+◌, ◌≤◌, true, List, length, OnOk, OnErr, IfOk, IfErr};
+ghost use Rattle.std.specs.Prelude.{◌≡◌, true, OnOk, OnErr, IfOk, IfErr};
 ghost use Rattle.std.specs.List.{list_all};
 ghost use Rattle.std.specs.Io.KnownBytes.{Appends};
 ghost use Rattle.devices.specs.Devices.{CanFail, CountsBy, AppendsPrefix};
-ghost use Rattle.captures.specs.Reference.{max_start};
 ghost use Rattle.captures.specs.Passes.{writer_failures, IsWriteOrMemory};
-ghost use Rattle.arrivals.specs.Reference.{Arrival};
 ghost use Rattle.replay.specs.Backs.{is_back};
 ghost use Rattle.replay.specs.Groups.{records_of};
-ghost use Rattle.replay.specs.Steps.{DecidesComing, ArePending};
-ghost use Rattle.replay.specs.Waiting.{Upcoming};
+ghost use Rattle.replay.specs.Steps.{ArePending, DecidesComing, MayServe};
 ghost use Rattle.replay.specs.declared.back.BackState.TheVariants.{Pending};
 
+use crate::ReplayFault;
 use crate::decider::{Decider, decide_next};
 use crate::lookup::look_up;
 use crate::pending::{PendingReply, answer_pending};
 use crate::server::Server;
-use crate::{MAX_MESSAGES, ReplayFault};
+use crate::source::FromCache;
 use arrivals::Incoming;
 use devices::Output;
 use page_cache::PageCache;
@@ -33,16 +31,12 @@ pub(crate) fn decide_in_turn<F: Tree>(
     messages: Vec<Incoming>,
     decider: &mut Decider,
 ) -> Result<Vec<PendingReply<F>>, AllocError>
-    requires start { decider.old.start ≤ max_start }
-    requires next { (arrivals : List Arrival) × (more : List Arrival)
-        × Upcoming F.files server.now.served arrivals more messages.items decider.old
-        × (length arrivals + length more ≤ MAX_MESSAGES) }
+    requires next { MayServe F.files server.now.served messages.items decider.old }
     ensures stands { OnOk result
         (DecidesComing F.files server.now.served messages.items decider.old decider.new) }
     ensures slips { IfOk result
         (λ v. ArePending F.files server.now.served messages.items decider.old v.items) }
     ensures ready { IfOk result (λ v. list_all (λ t. is_back F.files (Pending t)) v.items ≡ true) }
-    ensures start { OnOk result (decider.new.start ≡ decider.old.start) }
 {
     let mut pending_replies = Vec::with_capacity(server.alloc, messages.len())?;
     for message in messages {
@@ -71,9 +65,9 @@ pub(crate) fn answer_each<F: Tree, R: Wait, W: Write>(
     ensures own { IfErr result IsWriteOrMemory }
 {
     let mut heads = HeadRenderer::new(server.alloc);
-    let mut pages = cache.lock(rt);
+    let mut source = FromCache { rt, cache };
     for pending in pending_replies {
-        answer_pending(server, &mut heads, &mut *pages, pending, writer)?;
+        answer_pending(server, &mut heads, &mut source, pending, writer)?;
     }
     Ok(())
 }

@@ -9,7 +9,6 @@ ghost use Rattle.replay.specs.Chunks.{AreFloorSteps, chunk_len, chunk_step, chun
 ghost use Rattle.replay.specs.Groups.{page_capacity};
 
 use crate::chunks::{Chunk, ChunkValue};
-use crate::load::Load;
 use crate::serving::{Pricing, Serving};
 use paths::Tree;
 use stage_graph::{Before, Carries, Gate, Plan, Unrun};
@@ -32,10 +31,6 @@ pub(crate) struct Floors<'v, 'a, F: Tree, K: Pricing, C, Q, G, T: Wait> {
     pub threads: usize,
     /// How many bytes of pages the replies of a group may hold: any number without it.
     pub capacity: Option<usize>,
-    /// How many messages are answered at most.
-    pub most: usize,
-    /// How much work they have, or would have.
-    pub load: Load,
     pub ghost held: { capacity ≡ page_capacity F.files serving.now.server.floors.cache },
 }
 
@@ -49,18 +44,10 @@ impl<
     G: Gate,
     T: Wait,
 > Floors<'v, 'a, F, K, C, Q, G, T> {
-    /// Whether batches are read and taken through floors: where a gate sees the messages, and where a floor pays, if a
-    /// second thread is there.
-    pub fn pay(&self) -> bool {
-        !self.gate.is_absent() || (self.threads > 1 && self.load.pays())
-    }
-
-    /// Whether the calling thread takes one message of a batch after another through all stages, without a floor: where
-    /// no gate sees the messages, and the work is less than what pays, or no second thread is there. The work is
-    /// recorded.
-    pub fn is_alone(&self, work: usize, pays: usize) -> bool {
-        self.load.record_work(work, pays);
-        self.gate.is_absent() && (work < pays || self.threads <= 1)
+    /// Whether messages go through floors: where a gate sees them, and where a floor pays, if a second thread is there.
+    /// Else the calling thread takes one after another through all stages.
+    pub fn are_used(&self, pays: bool) -> bool {
+        !self.gate.is_absent() || (self.threads > 1 && pays)
     }
 
     /// How many of so many messages are in a chunk at most, on a floor of this plan.

@@ -3,14 +3,11 @@
 ghost use Rattle.std.specs.Prelude.{◌≡◌, ◌<◌, ◌≤◌, ◌-◌, ◌+◌, ◌^◌, List, OnOk, OnErr, IfErr, ℕ, length, take};
 ghost use Rattle.std.specs.Io.KnownBytes.{Appends};
 ghost use Rattle.devices.specs.Devices.{CanFail, CountsBy, AppendsPrefix};
-ghost use Rattle.captures.specs.Reference.{max_start, max_tick};
-ghost use Rattle.arrivals.specs.Reference.{Arrival};
 ghost use Rattle.paths.specs.declared.file.File.{File};
 ghost use Rattle.reference.specs.Reference.{Terms};
 ghost use Rattle.captures.specs.Passes.{writer_failures, IsWriteOrMemory};
-ghost use Rattle.replay.specs.Serving.{DeciderAfter, AreBy};
 ghost use Rattle.reference.specs.Texts.{Texts, AreTexts};
-ghost use Rattle.replay.specs.Steps.{DecidesNext, WritesNext, WritesNextInPart, DecidesPiece, WritesPiece};
+ghost use Rattle.replay.specs.Steps.{DecidesNext, DecidesPiece, MayCome, WritesNext, WritesNextInPart, WritesPiece};
 ghost use Rattle.replay.specs.Steps.{WritesPieceInPart};
 ghost use Rattle.reference.specs.Outcomes.{IsOwn, IfTooMany, IfCutShort};
 
@@ -60,27 +57,19 @@ pub(crate) trait Format {
         decider: &mut Decider,
         writer: &mut Output<W>,
     ) -> Result<(), ReplayFault>
-        requires start { decider.old.start ≤ max_start }
-        requires tick { origin.tick ≤ max_tick }
-        requires tier { origin.tier < 4 }
-        requires few { decider.old.totals.answered < MAX_MESSAGES }
-        requires stands { (arrivals : List Arrival)
-            × DeciderAfter F.files server.now.served arrivals decider.old
-            × AreBy origin.tick arrivals }
-        requires failures { CanFail writer.old }
+        requires next { MayCome F.files server.now.served origin decider.old
+            × (decider.old.totals.answered < MAX_MESSAGES) }
+        requires device { CanFail writer.old }
         ensures stands { OnOk result
             (DecidesNext F.files server.now.served origin what.now decider.old decider.new) }
         ensures written { OnOk result
             (WritesNext (texts F.files server.now.served) F.files server.now.served
             origin what.now decider.old writer.old.bytes writer.new.bytes) }
-        ensures start { OnOk result (decider.new.start ≡ decider.old.start) }
-        ensures number { OnOk result
-            (decider.new.totals.answered ≡ decider.old.totals.answered + 1) }
         ensures part { OnErr result
             (WritesNextInPart (texts F.files server.now.served) F.files server.now.served
             origin what.now decider.old writer.old.bytes writer.new.bytes) }
-        ensures failures { CountsBy writer_failures writer.old.failures writer.new.failures result }
-        ensures own { IfErr result IsWriteOrMemory };
+        ensures faults { CountsBy writer_failures writer.old.failures writer.new.failures result
+            × IfErr result IsWriteOrMemory };
 
     /// Writes what comes after n messages, where these are all.
     fn finish<W: Write>(
@@ -99,7 +88,7 @@ pub(crate) trait Format {
         ensures own { IfErr result IsWriteOrMemory };
 }
 
-/// Answers the messages that ended in a piece, in their order, so many in all at most.
+/// Answers the messages that ended in a piece, in their order, up to the limit of messages.
 pub(crate) fn answer_all<T: Format, F: Tree, S: Source<F>, W: Write>(
     server: &Server<'_, F>,
     heads: &mut HeadRenderer,
@@ -108,39 +97,30 @@ pub(crate) fn answer_all<T: Format, F: Tree, S: Source<F>, W: Write>(
     messages: &[Message],
     decider: &mut Decider,
     writer: &mut Output<W>,
-    most: usize,
 ) -> Result<(), ReplayFault>
-    requires texts { (files : List File) (terms : Terms) → AreTexts (T.texts files terms) }
-    requires start { decider.old.start ≤ max_start }
-    requires tick { origin.tick ≤ max_tick }
-    requires tier { origin.tier < 4 }
-    requires limit { (decider.old.totals.answered ≤ most) × (most ≤ MAX_MESSAGES) }
-    requires stands { (arrivals : List Arrival)
-        × DeciderAfter F.files server.now.served arrivals decider.old
-        × AreBy origin.tick arrivals }
-    requires failures { CanFail writer.old }
-    ensures stands { OnOk result
-        (DecidesPiece F.files server.now.served origin messages.now decider.old decider.new) }
-    ensures written { OnOk result
-        (WritesPiece (T.texts F.files server.now.served) F.files server.now.served
-        origin messages.now decider.old writer.old.bytes writer.new.bytes) }
-    ensures start { OnOk result (decider.new.start ≡ decider.old.start) }
-    ensures within { OnOk result (decider.new.totals.answered ≤ most) }
-    ensures many { IfErr result
-        (λ f. IfTooMany f (λ n. (n ≡ most) × (i : ℕ) × (i < length messages.now)
-        × (decider.old.totals.answered + i ≡ most)
+    requires texts { AreTexts (T.texts F.files server.now.served) }
+    requires next { MayCome F.files server.now.served origin decider.old
+        × (decider.old.totals.answered ≤ decider.old.most) }
+    requires device { CanFail writer.old }
+    ensures ok { OnOk result
+        (DecidesPiece F.files server.now.served origin messages.now decider.old decider.new
         × WritesPiece (T.texts F.files server.now.served) F.files server.now.served
-        origin (take i messages.now) decider.old writer.old.bytes writer.new.bytes)) }
-    ensures part { IfErr result (λ f. IfCutShort f ((i : ℕ) × (i ≤ length messages.now)
-        × (decider.old.totals.answered + i ≤ most)
+        origin messages.now decider.old writer.old.bytes writer.new.bytes) }
+    ensures stops { IfErr result
+        (λ f. IfTooMany f (λ n. (n ≡ decider.old.most) × (i : ℕ) × (i < length messages.now)
+        × (decider.old.totals.answered + i ≡ decider.old.most)
+        × WritesPiece (T.texts F.files server.now.served) F.files server.now.served
+        origin (take i messages.now) decider.old writer.old.bytes writer.new.bytes))
+        × IfErr result (λ f. IfCutShort f ((i : ℕ) × (i ≤ length messages.now)
+        × (decider.old.totals.answered + i ≤ decider.old.most)
         × WritesPieceInPart (T.texts F.files server.now.served) F.files server.now.served
         origin (take i messages.now) decider.old writer.old.bytes writer.new.bytes)) }
-    ensures failures { CountsBy writer_failures writer.old.failures writer.new.failures result }
-    ensures own { IfErr result IsOwn }
+    ensures faults { CountsBy writer_failures writer.old.failures writer.new.failures result
+        × IfErr result IsOwn }
 {
     for message in messages {
-        if decider.totals.answered == most {
-            return Err(ReplayFault::TooMany(most));
+        if decider.totals.answered == decider.most {
+            return Err(ReplayFault::TooMany(decider.most));
         }
         T::write_message::<F, S, W>(
             server,

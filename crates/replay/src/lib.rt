@@ -7,6 +7,7 @@ mod back;
 mod chunks;
 mod decider;
 mod direct;
+mod engine;
 mod explain;
 mod floors;
 mod format;

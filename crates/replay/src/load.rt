@@ -1,7 +1,10 @@
 //! How much work floors would have, by the last pieces: whether they pay.
 
+ghost use Rattle.std.specs.Prelude.{◌≡◌, ◌^◌, ◌-◌, map, max, min};
+ghost use Rattle.replay.specs.Loads.{judged, no_load, pays_in, target_len, targets_len, with_piece};
+
+use arrivals::Incoming;
 use http_requests::{Meaning, Message};
-use std::cell::Cell;
 
 /// How many bytes of targets a part has where a floor pays: to look them up takes longer than to take messages through
 /// chunks and queues.
@@ -11,76 +14,101 @@ pub(crate) const LOOKING_PAYS: usize = 1_048_576;
 /// holds one at a time; a floor asks the system for memory for the pages of a group.
 pub(crate) const ANSWERING_PAYS: usize = 67_108_864;
 
-/// Into how many shares the work is divided with which a floor pays.
-const SHARES: usize = 64;
+/// How many messages go through a pair of floors at a time.
+const PART: usize = 4_096;
 
 /// After how many pieces that the calling thread answered by itself it is judged whether floors would pay.
 const FEW: usize = 256;
 
 /// How many bytes the target of a message has.
-pub(crate) fn target_len(what: &Meaning) -> usize {
+fn target_len(what: &Meaning) -> usize
+    ensures { result ≡ target_len what.now }
+{
     match what {
         Meaning::Request { target, .. } => target.as_slice().len(),
         Meaning::Bad(_) => 0,
     }
 }
 
-/// The work of the pieces that came since it was last judged.
+/// How many bytes the targets of messages have; 2^64 - 1 where they are more.
+pub(crate) fn targets_len(messages: &[Incoming]) -> usize
+    ensures { result ≡ min (2 ^ 64 - 1) (targets_len (map (λ m. m.what) messages.now)) }
+{
+    let mut bytes: usize = 0;
+    for message in messages {
+        bytes = bytes.saturating_add(target_len(&message.what));
+    }
+    bytes
+}
+
+/// The same of the messages of a piece.
+fn piece_len(messages: &[Message]) -> usize
+    ensures { result ≡ min (2 ^ 64 - 1) (targets_len (map (λ m. m.what) messages.now)) }
+{
+    let mut bytes: usize = 0;
+    for message in messages {
+        bytes = bytes.saturating_add(target_len(&message.what));
+    }
+    bytes
+}
+
+/// Whether so much work in so many pieces would be as much as `pays` in a part of a batch of such pieces.
+fn pays_in(pays: usize, batch: usize, pieces: usize, work: usize) -> bool
+    ensures { result ≡ pays_in pays batch pieces work }
+{
+    let part = batch.clamp(1, PART);
+    let seen = pieces.clamp(1, PART);
+    pays as u128 * seen as u128 <= work as u128 * part as u128
+}
+
+/// The work of the pieces since it was last judged whether floors pay.
 #[derive(Drop)]
-pub(crate) struct Load {
-    /// Whether a floor would have paid for a whole batch of the pieces before these.
-    pays: Cell<bool>,
-    /// The greatest work of a floor, in shares of what pays.
-    share: Cell<usize>,
-    /// How many pieces were answered without a floor, and how many bytes their targets have.
-    pieces: Cell<usize>,
-    targets: Cell<usize>,
+pub struct Load {
+    /// Whether a floor would have paid for a batch of the pieces before these.
+    pub pays: bool,
+    /// The most bytes of targets that a part of them had.
+    pub targets: usize,
+    /// The most work that a group of their replies was, in bytes that are copied.
+    pub work: usize,
+    /// How many of them the calling thread answered by itself.
+    pub pieces: usize,
 }
 
 impl Load {
     /// No piece came yet.
-    pub fn new() -> Load {
+    pub(crate) fn new() -> Load
+        ensures { result ≡ no_load }
+    {
         Load {
-            pays: Cell::new(false),
-            share: Cell::new(0),
-            pieces: Cell::new(0),
-            targets: Cell::new(0),
+            pays: false,
+            targets: 0,
+            work: 0,
+            pieces: 0,
         }
     }
 
-    /// Whether a floor would have paid, when it was last judged.
-    pub fn pays(&self) -> bool {
-        self.pays.get()
-    }
-
-    /// A floor has so much work, of so much as pays.
-    pub fn record_work(&self, work: usize, pays: usize) {
-        let share = work / (pays / SHARES).max(1);
-        self.share.set(self.share.get().max(share));
-    }
-
-    /// A piece was answered without a floor, in which these messages end. Once there are enough such pieces it is
-    /// judged whether a floor would pay for a whole batch of them.
-    pub fn note_piece(&self, batch: usize, messages: &[Message]) {
-        let mut targets = self.targets.get();
-        for message in messages {
-            targets = targets.saturating_add(target_len(&message.what));
-        }
-        let pieces = self.pieces.get().saturating_add(1);
-        if pieces < FEW {
-            self.pieces.set(pieces);
-            self.targets.set(targets);
-        } else {
-            self.record_work(targets, LOOKING_PAYS);
-            self.judge(batch, pieces);
+    /// A piece with these messages was answered without a floor, where a batch has so many. Once there are enough it
+    /// is judged whether floors would pay.
+    pub(crate) fn add_piece(&mut self, batch: usize, messages: &[Message])
+        ensures { self.new ≡ with_piece batch (map (λ m. m.what) messages.now) self.old }
+    {
+        self.targets = self.targets.saturating_add(piece_len(messages));
+        self.pieces = self.pieces.saturating_add(1);
+        if self.pieces >= FEW {
+            self.judge(batch, self.pieces);
         }
     }
 
-    /// Judges, by so many pieces, whether a floor would have paid for a whole batch of them.
-    pub fn judge(&self, batch: usize, pieces: usize) {
-        let whole = self.share.replace(0).saturating_mul(batch) / pieces.max(1);
-        self.pays.set(whole >= SHARES);
-        self.pieces.set(0);
-        self.targets.set(0);
+    /// Judges, by so many pieces, whether floors would have paid for a batch of them.
+    pub(crate) fn judge(&mut self, batch: usize, pieces: usize)
+        ensures { self.new ≡ judged batch pieces self.old }
+    {
+        *self = Load {
+            pays: pays_in(LOOKING_PAYS, batch, pieces, self.targets)
+                || pays_in(ANSWERING_PAYS, batch, pieces, self.work),
+            targets: 0,
+            work: 0,
+            pieces: 0,
+        };
     }
 }

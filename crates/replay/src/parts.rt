@@ -7,18 +7,18 @@ ghost use Rattle.replay.specs.Chunks.{AreFloorSteps};
 ghost use Rattle.replay.specs.Backs.{is_back};
 ghost use Rattle.replay.specs.declared.back.BackState.TheVariants.{Pending};
 ghost use Rattle.replay.specs.Groups.{records_of};
-ghost use Rattle.captures.specs.Reference.{max_start};
 ghost use Rattle.responses.specs.Reference.{record_text};
 ghost use Rattle.arrivals.specs.Reference.{Arrival};
 ghost use Rattle.arrivals.specs.Batches.{joined};
 ghost use Rattle.reference.specs.Outcomes.{IsOwn, IfTooMany, IfCutShort};
 ghost use Rattle.captures.specs.Passes.{writer_failures, IsWriteOrMemory};
 ghost use Rattle.replay.specs.Steps.{DecidesComing, ArePending, WritesComing, WritesComingInPart};
-ghost use Rattle.replay.specs.Steps.{FillsWithComing, AnswersComingInPart};
+ghost use Rattle.replay.specs.Steps.{FillsWithComing, AnswersComingInPart, MayServe};
 ghost use Rattle.replay.specs.Waiting.{Upcoming};
 ghost use Rattle.std.specs.Io.KnownBytes.{Appends};
 ghost use Rattle.devices.specs.Devices.{CanFail, CountsBy, AppendsPrefix};
 
+use crate::ReplayFault;
 use crate::back::run_back;
 use crate::chunks::{Chunk, ChunkValue};
 use crate::decider::{Decider, decide_all};
@@ -26,10 +26,9 @@ use crate::direct::{answer_each, decide_in_turn};
 use crate::floors::Floors;
 use crate::front::run_front;
 use crate::groups::{groups_of, work_of};
-use crate::load::{ANSWERING_PAYS, LOOKING_PAYS, target_len};
+use crate::load::{ANSWERING_PAYS, LOOKING_PAYS, Load, targets_len};
 use crate::pending::PendingReply;
 use crate::serving::Pricing;
-use crate::{MAX_MESSAGES, ReplayFault};
 use arrivals::{Incoming, Series};
 use devices::Output;
 use paths::Tree;
@@ -37,15 +36,6 @@ use responses::{Reply, write_reply};
 use stage_graph::{Carries, Gate, Unrun};
 use std::io::Write;
 use std::sync::Wait;
-
-/// How many bytes the targets of messages have.
-fn targets_of(messages: &[Incoming]) -> usize {
-    let mut bytes: usize = 0;
-    for message in messages {
-        bytes = bytes.saturating_add(target_len(&message.what));
-    }
-    bytes
-}
 
 /// The fault of a replay whose floor has no run: it was out of memory.
 fn of_unrun(_unrun: Unrun) -> ReplayFault
@@ -85,18 +75,19 @@ fn answer_group<
     W: Write,
 >(
     floors: &Floors<'_, '_, F, K, C, Q, G, T>,
+    load: &mut Load,
     group: Vec<PendingReply<F>>,
     writer: &mut Output<W>,
 ) -> Result<(), ReplayFault>
     requires can { AreFloorSteps F.files K.tariff C.step C.content C.count }
     requires ready { list_all (λ t. is_back F.files (Pending t)) group.items ≡ true }
-    requires failures { CanFail writer.old }
+    requires device { CanFail writer.old }
     ensures written { OnOk result
         (Appends writer.old.bytes writer.new.bytes (records_of F.files group.items)) }
     ensures part { OnErr result
         (AppendsPrefix writer.old.bytes writer.new.bytes (records_of F.files group.items)) }
-    ensures failures { CountsBy writer_failures writer.old.failures writer.new.failures result }
-    ensures own { IfErr result IsWriteOrMemory }
+    ensures faults { CountsBy writer_failures writer.old.failures writer.new.failures result
+        × IfErr result IsWriteOrMemory }
 {
     let first = match group.first() {
         Some(pending) => pending.number,
@@ -106,7 +97,8 @@ fn answer_group<
     let server = &serving.server;
     let cache = &serving.cache;
     let work = work_of(serving.rt, server.snapshot, cache, ANSWERING_PAYS, &group);
-    if floors.is_alone(work, ANSWERING_PAYS) {
+    load.work = load.work.max(work);
+    if !floors.are_used(work >= ANSWERING_PAYS) {
         return answer_each(server, serving.rt, cache, group, writer);
     }
     match run_back(floors, first, group) {
@@ -126,18 +118,19 @@ fn answer_all_pending<
     W: Write,
 >(
     floors: &Floors<'_, '_, F, K, C, Q, G, T>,
+    load: &mut Load,
     pending_replies: Vec<PendingReply<F>>,
     writer: &mut Output<W>,
 ) -> Result<(), ReplayFault>
     requires can { AreFloorSteps F.files K.tariff C.step C.content C.count }
     requires ready { list_all (λ t. is_back F.files (Pending t)) pending_replies.items ≡ true }
-    requires failures { CanFail writer.old }
+    requires device { CanFail writer.old }
     ensures written { OnOk result
         (Appends writer.old.bytes writer.new.bytes (records_of F.files pending_replies.items)) }
     ensures part { OnErr result
         (AppendsPrefix writer.old.bytes writer.new.bytes (records_of F.files pending_replies.items)) }
-    ensures failures { CountsBy writer_failures writer.old.failures writer.new.failures result }
-    ensures own { IfErr result IsWriteOrMemory }
+    ensures faults { CountsBy writer_failures writer.old.failures writer.new.failures result
+        × IfErr result IsWriteOrMemory }
 {
     let serving = floors.serving;
     let server = &serving.server;
@@ -147,7 +140,7 @@ fn answer_all_pending<
         floors.capacity,
         pending_replies,
     )? {
-        answer_group(floors, group.into_vec(), writer)?;
+        answer_group(floors, load, group.into_vec(), writer)?;
     }
     Ok(())
 }
@@ -163,26 +156,24 @@ fn decide_messages<
     T: Wait,
 >(
     floors: &Floors<'_, '_, F, K, C, Q, G, T>,
+    load: &mut Load,
     messages: Vec<Incoming>,
     decider: &mut Decider,
 ) -> Result<Vec<PendingReply<F>>, ReplayFault>
     requires can { AreFloorSteps F.files K.tariff C.step C.content C.count }
-    requires start { decider.old.start ≤ max_start }
-    requires next { (arrivals : List Arrival) × (more : List Arrival)
-        × Upcoming F.files (served_by floors.now) arrivals more messages.items decider.old
-        × (length arrivals + length more ≤ MAX_MESSAGES) }
+    requires next { MayServe F.files (served_by floors.now) messages.items decider.old }
     ensures stands { OnOk result
         (DecidesComing F.files (served_by floors.now) messages.items decider.old decider.new) }
     ensures slips { IfOk result
         (λ v. ArePending F.files (served_by floors.now) messages.items decider.old v.items) }
     ensures ready { IfOk result (λ v. list_all (λ t. is_back F.files (Pending t)) v.items ≡ true) }
-    ensures start { OnOk result (decider.new.start ≡ decider.old.start) }
     ensures memory { IfErr result (λ f. f ≡ ReplayFault.Memory) }
 {
     let serving = floors.serving;
     let server = &serving.server;
-    let targets = targets_of(&messages);
-    if floors.is_alone(targets, LOOKING_PAYS) {
+    let targets = targets_len(&messages);
+    load.targets = load.targets.max(targets);
+    if !floors.are_used(targets >= LOOKING_PAYS) {
         return Ok(decide_in_turn(server, messages, decider)?);
     }
     match run_front(floors, decider.totals.answered, messages) {
@@ -202,33 +193,30 @@ fn serve_few<
     W: Write,
 >(
     floors: &Floors<'_, '_, F, K, C, Q, G, T>,
+    load: &mut Load,
     messages: Vec<Incoming>,
     decider: &mut Decider,
     writer: &mut Output<W>,
 ) -> Result<(), ReplayFault>
     requires can { AreFloorSteps F.files K.tariff C.step C.content C.count }
-    requires start { decider.old.start ≤ max_start }
-    requires next { (arrivals : List Arrival) × (more : List Arrival)
-        × Upcoming F.files (served_by floors.now) arrivals more messages.items decider.old
-        × (length arrivals + length more ≤ MAX_MESSAGES) }
-    requires failures { CanFail writer.old }
+    requires next { MayServe F.files (served_by floors.now) messages.items decider.old }
+    requires device { CanFail writer.old }
     ensures stands { OnOk result
         (DecidesComing F.files (served_by floors.now) messages.items decider.old decider.new) }
     ensures written { OnOk result
         (WritesComing F.files (served_by floors.now) messages.items decider.old
-        writer.old.bytes writer.new.bytes) }
-    ensures part { OnErr result
+        writer.old.bytes writer.new.bytes)
+        × OnErr result
         (WritesComingInPart F.files (served_by floors.now) messages.items decider.old
         writer.old.bytes writer.new.bytes) }
-    ensures start { OnOk result (decider.new.start ≡ decider.old.start) }
-    ensures failures { CountsBy writer_failures writer.old.failures writer.new.failures result }
-    ensures own { IfErr result IsWriteOrMemory }
+    ensures faults { CountsBy writer_failures writer.old.failures writer.new.failures result
+        × IfErr result IsWriteOrMemory }
 {
     if messages.is_empty() {
         return Ok(());
     }
-    let pending_replies = decide_messages(floors, messages, decider)?;
-    answer_all_pending(floors, pending_replies, writer)
+    let pending_replies = decide_messages(floors, load, messages, decider)?;
+    answer_all_pending(floors, load, pending_replies, writer)
 }
 
 /// Serves messages: those within the limit.
@@ -242,41 +230,38 @@ fn serve_part<
     W: Write,
 >(
     floors: &Floors<'_, '_, F, K, C, Q, G, T>,
+    load: &mut Load,
     messages: Vec<Incoming>,
     decider: &mut Decider,
     writer: &mut Output<W>,
 ) -> Result<(), ReplayFault>
     requires can { AreFloorSteps F.files K.tariff C.step C.content C.count }
-    requires start { decider.old.start ≤ max_start }
-    requires next { (arrivals : List Arrival) × (more : List Arrival)
+    requires next { (decider.old.totals.answered ≤ decider.old.most)
+        × (arrivals : List Arrival) × (more : List Arrival)
         × Upcoming F.files (served_by floors.now) arrivals more messages.items decider.old }
-    requires limit { (decider.old.totals.answered ≤ floors.now.most)
-        × (floors.now.most ≤ MAX_MESSAGES) }
-    requires failures { CanFail writer.old }
-    ensures stands { OnOk result
-        (DecidesComing F.files (served_by floors.now) messages.items decider.old decider.new) }
-    ensures written { OnOk result
-        (WritesComing F.files (served_by floors.now) messages.items decider.old
+    requires device { CanFail writer.old }
+    ensures ok { OnOk result
+        (DecidesComing F.files (served_by floors.now) messages.items decider.old decider.new
+        × (decider.new.totals.answered ≤ decider.new.most)
+        × WritesComing F.files (served_by floors.now) messages.items decider.old
         writer.old.bytes writer.new.bytes) }
-    ensures many { IfErr result (λ f. IfTooMany f
-        (FillsWithComing floors.now.most F.files (served_by floors.now) messages.items decider.old
+    ensures stops { IfErr result (λ f. IfTooMany f
+        (FillsWithComing F.files (served_by floors.now) messages.items decider.old
+        writer.old.bytes writer.new.bytes))
+        × IfErr result (λ f. IfCutShort f
+        (AnswersComingInPart F.files (served_by floors.now) messages.items decider.old
         writer.old.bytes writer.new.bytes)) }
-    ensures part { IfErr result (λ f. IfCutShort f
-        (AnswersComingInPart floors.now.most F.files (served_by floors.now) messages.items decider.old
-        writer.old.bytes writer.new.bytes)) }
-    ensures start { OnOk result (decider.new.start ≡ decider.old.start) }
-    ensures within { OnOk result (decider.new.totals.answered ≤ floors.now.most) }
-    ensures failures { CountsBy writer_failures writer.old.failures writer.new.failures result }
-    ensures own { IfErr result IsOwn }
+    ensures faults { CountsBy writer_failures writer.old.failures writer.new.failures result
+        × IfErr result IsOwn }
 {
-    let left = floors.most - decider.totals.answered;
+    let left = decider.most - decider.totals.answered;
     if messages.len() <= left {
-        return serve_few(floors, messages, decider, writer);
+        return serve_few(floors, load, messages, decider, writer);
     }
     let mut within = messages;
     within.truncate(left);
-    serve_few(floors, within, decider, writer)?;
-    Err(ReplayFault::TooMany(floors.most))
+    serve_few(floors, load, within, decider, writer)?;
+    Err(ReplayFault::TooMany(decider.most))
 }
 
 /// Serves the messages of a batch, part after part.
@@ -290,35 +275,32 @@ pub(crate) fn serve_parts<
     W: Write,
 >(
     floors: &Floors<'_, '_, F, K, C, Q, G, T>,
+    load: &mut Load,
     parts: Vec<Series<Incoming>>,
     decider: &mut Decider,
     writer: &mut Output<W>,
 ) -> Result<(), ReplayFault>
     requires can { AreFloorSteps F.files K.tariff C.step C.content C.count }
-    requires start { decider.old.start ≤ max_start }
-    requires next { (arrivals : List Arrival) × (more : List Arrival)
+    requires next { (decider.old.totals.answered ≤ decider.old.most)
+        × (arrivals : List Arrival) × (more : List Arrival)
         × Upcoming F.files (served_by floors.now) arrivals more (joined parts.items) decider.old }
-    requires limit { (decider.old.totals.answered ≤ floors.now.most)
-        × (floors.now.most ≤ MAX_MESSAGES) }
-    requires failures { CanFail writer.old }
-    ensures stands { OnOk result
-        (DecidesComing F.files (served_by floors.now) (joined parts.items) decider.old decider.new) }
-    ensures written { OnOk result
-        (WritesComing F.files (served_by floors.now) (joined parts.items) decider.old
+    requires device { CanFail writer.old }
+    ensures ok { OnOk result
+        (DecidesComing F.files (served_by floors.now) (joined parts.items) decider.old decider.new
+        × (decider.new.totals.answered ≤ decider.new.most)
+        × WritesComing F.files (served_by floors.now) (joined parts.items) decider.old
         writer.old.bytes writer.new.bytes) }
-    ensures many { IfErr result (λ f. IfTooMany f
-        (FillsWithComing floors.now.most F.files (served_by floors.now) (joined parts.items) decider.old
+    ensures stops { IfErr result (λ f. IfTooMany f
+        (FillsWithComing F.files (served_by floors.now) (joined parts.items) decider.old
+        writer.old.bytes writer.new.bytes))
+        × IfErr result (λ f. IfCutShort f
+        (AnswersComingInPart F.files (served_by floors.now) (joined parts.items) decider.old
         writer.old.bytes writer.new.bytes)) }
-    ensures part { IfErr result (λ f. IfCutShort f
-        (AnswersComingInPart floors.now.most F.files (served_by floors.now) (joined parts.items) decider.old
-        writer.old.bytes writer.new.bytes)) }
-    ensures start { OnOk result (decider.new.start ≡ decider.old.start) }
-    ensures within { OnOk result (decider.new.totals.answered ≤ floors.now.most) }
-    ensures failures { CountsBy writer_failures writer.old.failures writer.new.failures result }
-    ensures own { IfErr result IsOwn }
+    ensures faults { CountsBy writer_failures writer.old.failures writer.new.failures result
+        × IfErr result IsOwn }
 {
     for part in parts {
-        serve_part(floors, part.into_vec(), decider, writer)?;
+        serve_part(floors, load, part.into_vec(), decider, writer)?;
     }
     Ok(())
 }

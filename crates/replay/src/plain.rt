@@ -1,39 +1,29 @@
 //! The plain engine: one thread, message by message.
 
-ghost use Rattle.std.specs.Prelude.{◌≡◌, ◌+◌, ◌≤◌, ◌<◌, ◌-◌, ◌^◌, ◌⊎◌, ◌∷◌, [], List, ◌++◌, IfOk, IfErr, OnOk};
+ghost use Rattle.std.specs.Prelude.{◌≡◌, ◌<◌, ◌^◌, List, IfOk, IfErr};
 ghost use Rattle.devices.specs.Devices.{CanFail, CountsBy};
-ghost use Rattle.captures.specs.declared.version.Version.{Version as AVersion};
-ghost use Rattle.captures.specs.Reference.{IsRecord, max_start};
-ghost use Rattle.captures.specs.CaptureFaults.{longest_text};
-ghost use Rattle.captures.specs.Captures.{size_of, sizes_of};
-ghost use Rattle.captures.specs.declared.record.Record.{Record as ARecord};
+ghost use Rattle.captures.specs.Passes.{reader_failures, writer_failures};
 ghost use Rattle.paths.specs.declared.file.File.{File};
 ghost use Rattle.reference.specs.Reference.{Terms, summary_of, tallies_of, tally_of, Answers};
 ghost use Rattle.arrivals.specs.Reference.{Arrival};
-ghost use Rattle.reference.specs.Texts.{AreTexts, reply_texts};
-ghost use Rattle.reference.specs.Outcomes.{IfTooMany, IfCutShort, IsOwn, Leaves};
-ghost use Rattle.captures.specs.Passes.{reader_failures};
-ghost use Rattle.captures.specs.Passes.{writer_failures};
-ghost use Rattle.replay.specs.Serving.{IsLater, Serves, DeciderAfter, WritesWhole};
-ghost use Rattle.replay.specs.Steps.{AnswersRecord, FillsWithRecord, AnswersRecordInPart};
-ghost use Rattle.arrivals.specs.Connections.{AreTiers};
+ghost use Rattle.reference.specs.Texts.{reply_texts};
+ghost use Rattle.reference.specs.Outcomes.{Leaves};
+ghost use Rattle.replay.specs.Serving.{DeciderAfter, WritesWhole};
 ghost use Rattle.admission.specs.Reference.{Offer, pools_of};
 ghost use Rattle.admission.specs.After.{ControllerAfter};
 ghost use Rattle.admission.specs.Standing.{station_of};
 
-use crate::decider::{Decider, controller_of};
-use crate::format::{Format, answer_all};
-use crate::reading::Reading;
+use crate::decider::Decider;
+use crate::engine::{Engine, answer_next};
+use crate::format::Format;
 use crate::replies::Replies;
 use crate::server::Server;
-use crate::source::{FromSnapshot, Source};
-use crate::totals::Totals;
-use crate::{MAX_MESSAGES, ReplayFault, Settings, Summary, Tally};
+use crate::source::FromSnapshot;
+use crate::{ReplayFault, Settings, Summary, Tally};
 use admission::{Control, Controller, PoolFigures};
-use arrivals::{Connections, Origin, Series, Tiers};
-use captures::{CaptureReader, Record, Version};
+use arrivals::{Connections, Series, Tiers};
+use captures::{CaptureReader, Version};
 use devices::{Input, Output};
-use http_requests::Message;
 use paths::{Snapshot, Tree};
 use reference::Outcome;
 use responses::HeadRenderer;
@@ -108,71 +98,6 @@ pub(crate) fn outcome_of(version: Version, decider: Decider) -> Outcome
     }
 }
 
-/// Reads one more record: answers the messages that arrive with it, so many in all at most. `messages` is a buffer for
-/// them, and holds those of the record afterwards.
-pub(crate) fn answer_record<T: Format, F: Tree, S: Source<F>, C: Reading, W: Write>(
-    server: &Server<'_, F>,
-    heads: &mut HeadRenderer,
-    source: &mut S,
-    messages: &mut Vec<Message>,
-    next: &Record,
-    connections: &mut C,
-    tiers: &mut Tiers,
-    decider: &mut Decider,
-    writer: &mut Output<W>,
-    most: usize,
-) -> Result<(), ReplayFault>
-    requires texts { (files : List File) (terms : Terms) → AreTexts (T.texts files terms) }
-    requires start { decider.old.start ≤ max_start }
-    requires limit { (decider.old.totals.answered ≤ most) × (most ≤ MAX_MESSAGES) }
-    requires record { (version : AVersion) × IsRecord version next.now }
-    requires capacity { (records : List ARecord) × (arrivals : List Arrival)
-        × Serves F.files server.now.served records arrivals (C.connections connections.old) decider.old
-        × (sizes_of records + size_of next.now ≤ longest_text) × IsLater next.now arrivals }
-    requires failures { CanFail writer.old }
-    ensures tiers { OnOk result ((records : List ARecord) → AreTiers records tiers.old
-        → AreTiers (records ++ next.now ∷ []) tiers.new) }
-    ensures serves { OnOk result
-        (AnswersRecord (T.texts F.files server.now.served) F.files server.now.served
-        next.now tiers.old (C.connections connections.old) decider.old
-        (C.connections connections.new) decider.new writer.old.bytes writer.new.bytes) }
-    ensures idle { OnOk result (C.idle connections.old → C.idle connections.new) }
-    ensures start { OnOk result (decider.new.start ≡ decider.old.start) }
-    ensures within { OnOk result (decider.new.totals.answered ≤ most) }
-    ensures many { IfErr result (λ f. IfTooMany f (λ n. (n ≡ most)
-        × FillsWithRecord most (T.texts F.files server.now.served) F.files server.now.served
-        next.now tiers.old (C.connections connections.old) decider.old writer.old.bytes writer.new.bytes)) }
-    ensures part { IfErr result (λ f. IfCutShort f ((writer.new.bytes ≡ writer.old.bytes)
-        ⊎ AnswersRecordInPart most (T.texts F.files server.now.served) F.files server.now.served
-        next.now tiers.old (C.connections connections.old) decider.old writer.old.bytes writer.new.bytes)) }
-    ensures failures { CountsBy writer_failures writer.old.failures writer.new.failures result }
-    ensures own { IfErr result IsOwn }
-{
-    match next {
-        Record::End { conn, .. } => {
-            connections.close(usize::from(*conn));
-            tiers.end(*conn);
-            Ok(())
-        }
-        Record::Tier { conn, tier } => {
-            tiers.give(*conn, *tier)?;
-            Ok(())
-        }
-        Record::Piece { tick, conn, bytes } => {
-            messages.clear();
-            connections.read(server.alloc, usize::from(*conn), bytes.as_slice(), messages)?;
-            let origin = Origin {
-                conn: *conn,
-                tick: *tick,
-                tier: tiers.of(*conn),
-            };
-            answer_all::<T, F, S, W>(
-                server, heads, source, origin, messages, decider, writer, most,
-            )
-        }
-    }
-}
-
 /// Replays a capture on one thread: each message is decided on and written, in the order of their arrival, before the
 /// next record is read. The first line is written before anything is read, the last one after the end of the input.
 pub(crate) fn replay_writing<T: Format, F: Tree, R: Read, W: Write>(
@@ -203,39 +128,27 @@ pub(crate) fn replay_writing<T: Format, F: Tree, R: Read, W: Write>(
         settings,
         tree: PhantomData,
     };
-    let mut heads = HeadRenderer::new(alloc);
-    let mut source = FromSnapshot;
-    let mut messages = Vec::new(alloc);
-    let mut connections = Connections::new(alloc);
-    let mut tiers = Tiers::new(alloc);
     let version = capture.version();
-    let most = version.max_messages();
-    let mut decider = Decider {
-        start: capture.start(),
-        controller: controller_of(alloc, settings)?,
-        totals: Totals::new(alloc),
+    let connections = Connections::new(alloc);
+    let tiers = Tiers::new(alloc);
+    let decider = Decider::new(alloc, settings, capture.start(), version.max_messages())?;
+    let mut engine = Engine {
+        heads: HeadRenderer::new(alloc),
+        source: FromSnapshot,
+        messages: Vec::new(alloc),
+        connections,
+        tiers,
+        decider,
     };
-    loop {
-        let next = match capture.next_record(alloc) {
-            Ok(Some(next)) => next,
-            Ok(None) => break,
-            Err(fault) => return Err(ReplayFault::from(fault)),
-        };
-        answer_record::<T, F, FromSnapshot, Connections, W>(
-            &server,
-            &mut heads,
-            &mut source,
-            &mut messages,
-            &next,
-            &mut connections,
-            &mut tiers,
-            &mut decider,
-            writer,
-            most,
-        )?;
-    }
-    let answered = decider.totals.answered;
-    let outcome = outcome_of(version, decider);
+    while answer_next::<T, F, FromSnapshot, Connections, R, W>(
+        &server,
+        &mut engine,
+        &mut capture,
+        writer,
+    )?.is_some()
+    {}
+    let answered = engine.decider.totals.answered;
+    let outcome = outcome_of(version, engine.decider);
     T::finish(alloc, writer, answered)?;
     Ok(outcome)
 }

@@ -28,7 +28,8 @@ pub(crate) trait Reading {
         out: &mut Vec<Message>,
     ) -> Result<(), AllocError>
         requires empty { out.old.items ≡ [] }
-        requires capacity { HasCapacity (connection_at (connections self.old) conn) (length piece.now) }
+        requires capacity { HasCapacity (connection_at (connections self.old) conn)
+            (length piece.now) }
         ensures own { OnOk result (Reads (connection_at (connections self.old) conn)
             piece.now out.new.items (connection_at (connections self.new) conn)) }
         ensures others { OnOk result ((c : ℕ) → c ≢ conn

@@ -119,7 +119,8 @@ fn row_of<F: Tree>(
 ) -> Row
     requires free { found.free ≤ MAX_TICK + MAX_SERVICE * MAX_OFFERS }
     requires tick { tick ≤ MAX_TICK }
-    ensures { (files : List File) (terms : Terms) (start : ℕ) (arrivals : List Arrival) (a : Arrival)
+    ensures { (files : List File) (terms : Terms) (start : ℕ)
+        (arrivals : List Arrival) (a : Arrival)
         → a.origin ≡ origin → tick ≡ tick_in terms origin → pools ≡ has_pools terms
         → charge ≡ charge_in (lookup_of files terms.tariff a.message.what)
         → found ≡ outlook_after files terms arrivals (pool_of charge) origin.tier tick

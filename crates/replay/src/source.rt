@@ -1,7 +1,6 @@
 //! Where the bytes of files come from that replies give.
 
-ghost use Rattle.std.specs.Prelude.{◌≡◌, ◌<◌, ◌≤◌, [], length, OnOk, OnErr, IfOk, IfErr};
-ghost use Rattle.std.specs.Arc.{arc_value};
+ghost use Rattle.std.specs.Prelude.{◌≡◌, ◌<◌, ◌≤◌, [], length, OnOk, OnErr, IfErr};
 ghost use Rattle.std.specs.Io.KnownBytes.{Appends};
 ghost use Rattle.devices.specs.Devices.{CanFail, CountsBy, AppendsPrefix};
 ghost use Rattle.captures.specs.Passes.{writer_failures, IsWriteOrMemory};
@@ -11,14 +10,14 @@ ghost use Rattle.responses.specs.Reference.{record_text};
 ghost use Rattle.replay.specs.Backs.{response_record};
 
 use crate::ReplayFault;
+use crate::back::find_page;
 use crate::server::Server;
 use devices::Output;
-use page_cache::{Page, PageCache};
-use paths::{Snapshot, Tree};
+use page_cache::PageCache;
+use paths::Tree;
 use responses::{HeadRenderer, Slip, write_record};
-use std::alloc::{AllocError, Global};
 use std::io::Write;
-use std::sync::Arc;
+use std::sync::{Mutex, Wait};
 
 /// Writes the reply that gives a file these bytes, by the slip of the answer to HEAD.
 fn give_file<F: Tree, W: Write>(
@@ -80,27 +79,14 @@ impl<F: Tree> Source<F> for FromSnapshot {
     }
 }
 
-/// The page of a file: from a cache that no other thread asks, or built and kept there.
-fn page_of<F: Tree>(
-    alloc: Global,
-    snapshot: &Snapshot,
-    cache: &mut PageCache<F>,
-    file: usize,
-) -> Result<Arc<Page<F>>, AllocError>
-    requires snapshot { snapshot.now ≡ F.files }
-    requires file { file < length F.files }
-    ensures { IfOk result (λ p. arc_value p ≡ file) }
-{
-    if let Some(page) = cache.look(file)? {
-        return Ok(page);
-    }
-    let page = Page::build(alloc, snapshot, file)?;
-    let _kept = cache.keep(Arc::try_clone(&page)?);
-    Ok(page)
+/// The bytes come from the pages of a cache.
+#[derive(Drop)]
+pub(crate) struct FromCache<'a, F: Tree, T: Wait> {
+    pub rt: &'a T,
+    pub cache: &'a Mutex<PageCache<F>>,
 }
 
-/// The bytes come from the pages of a cache.
-impl<F: Tree> Source<F> for PageCache<F> {
+impl<'a, F: Tree, T: Wait> Source<F> for FromCache<'a, F, T> {
     fn give<W: Write>(
         &mut self,
         server: &Server<'_, F>,
@@ -109,7 +95,7 @@ impl<F: Tree> Source<F> for PageCache<F> {
         file: usize,
         writer: &mut Output<W>,
     ) -> Result<(), ReplayFault> {
-        let page = page_of(server.alloc, server.snapshot, self, file)?;
+        let page = find_page(self.rt, server.alloc, server.snapshot, self.cache, file)?;
         give_file::<F, W>(heads, slip, page.body(), writer)
     }
 }

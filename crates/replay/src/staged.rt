@@ -12,7 +12,8 @@ ghost use Rattle.replay.specs.Replayed.{Stopped, Replayed};
 
 use crate::advance::serve_next;
 use crate::chunks::{Chunk, ChunkValue};
-use crate::decider::{Decider, controller_of};
+use crate::decider::Decider;
+use crate::engine::Engine;
 use crate::floors::Floors;
 use crate::groups::page_capacity;
 use crate::load::Load;
@@ -20,7 +21,7 @@ use crate::plain::outcome_of;
 use crate::replies::{write_first_line, write_last_line};
 use crate::server::Server;
 use crate::serving::{FloorSteps, Pricing, Serving};
-use crate::totals::Totals;
+use crate::source::FromCache;
 use crate::{ReplayFault, Settings};
 use arrivals::{ConnectionQueues, Tiers};
 use captures::CaptureReader;
@@ -330,13 +331,20 @@ impl<
         let server = &serving.server;
         let alloc = server.alloc;
         let settings = server.settings;
-        let mut queues = ConnectionQueues::new(alloc);
-        let mut tiers = Tiers::new(alloc);
         let version = capture.version();
-        let mut decider = Decider {
-            start: capture.start(),
-            controller: controller_of(alloc, settings)?,
-            totals: Totals::new(alloc),
+        let connections = ConnectionQueues::new(alloc);
+        let tiers = Tiers::new(alloc);
+        let decider = Decider::new(alloc, settings, capture.start(), version.max_messages())?;
+        let mut engine = Engine {
+            heads: HeadRenderer::new(alloc),
+            source: FromCache {
+                rt: serving.rt,
+                cache: &serving.cache,
+            },
+            messages: Vec::new(alloc),
+            connections,
+            tiers,
+            decider,
         };
         let floors = Floors {
             serving,
@@ -345,23 +353,11 @@ impl<
             gate: self.gate,
             threads: self.threads,
             capacity: page_capacity(server.snapshot, settings.cache()),
-            most: version.max_messages(),
-            load: Load::new(),
         };
-        let mut heads = HeadRenderer::new(alloc);
-        let mut messages = Vec::new(alloc);
-        while serve_next(
-            &floors,
-            &mut heads,
-            &mut messages,
-            &mut capture,
-            &mut queues,
-            &mut tiers,
-            &mut decider,
-            writer,
-        )? {}
-        let answered = decider.totals.answered;
-        let outcome = outcome_of(version, decider);
+        let mut load = Load::new();
+        while serve_next(&floors, &mut load, &mut engine, &mut capture, writer)? {}
+        let answered = engine.decider.totals.answered;
+        let outcome = outcome_of(version, engine.decider);
         write_last_line(alloc, writer, answered)?;
         Ok(outcome)
     }

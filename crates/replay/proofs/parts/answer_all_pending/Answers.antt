@@ -16,7 +16,7 @@ answer_group-requires-clause-ready g c =
 pub loop-group-preserved : goal.loop-group-preserved
 loop-group-preserved g c = (
   answered_more _ _ c.in-Some.group _ _ _ _ _ c.loop-group.invariant.0 c.in-Some.ensures.steps.0 (rw c.into_vec.ensures at c.in_ok-answer_group.ensures.written),
-  c.in_ok-answer_group.ensures.failures ∙ c.loop-group.invariant.1,
+  c.in_ok-answer_group.ensures.faults.0 ∙ c.loop-group.invariant.1,
 )
 
 pub returns-in_err-answer_group-clause-part : goal.returns-in_err-answer_group-clause-part

@@ -8,4 +8,4 @@ use Rattle.replay.proofs.parts.serve_parts.Given as goal
 abbrev pub invariant-loop-part : goal.invariant-loop-part
 invariant-loop-part g l =
     Served g.F.Tree.files l.floors.serving.now.server.served (joined l.fn.parts.items) l.fn.decider l.decider l.fn.writer.bytes l.writer.bytes (into_iter_items l.part-iterator) × (l.writer.failures ≡ l.fn.writer.failures)
-    × (l.decider.totals.answered ≤ l.floors.most)
+    × (l.decider.totals.answered ≤ l.decider.most)

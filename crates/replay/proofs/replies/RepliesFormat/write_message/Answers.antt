@@ -6,6 +6,14 @@ use Rattle.replay.proofs.Judging.{reply_written, on_err}
 use Rattle.replay.proofs.Upcoming.{ok_more, err_more}
 use Rattle.replay.proofs.replies.RepliesFormat.write_message.Goals as goal
 
+pub decide_next-requires-clause-origin : goal.decide_next-requires-clause-origin
+decide_next-requires-clause-origin g c = (c.requires.next.0.tick, c.requires.next.0.tier)
+
+pub decide_next-requires-clause-stands : goal.decide_next-requires-clause-stands
+decide_next-requires-clause-stands g c =
+    let may = c.requires.next.0 in
+    (c.requires.next.1, may.arrivals, may.stands.counted, may.stands.clock c.args.origin.tick may.by)
+
 pub returns-in_err-lookup-clause-part : goal.returns-in_err-lookup-clause-part
 returns-in_err-lookup-clause-part g c =
     on_err c.from_residual.result _ (λ arrivals a stands from meaning. prefix_none c.args.writer.now.bytes _)

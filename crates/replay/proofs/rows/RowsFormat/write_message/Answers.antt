@@ -11,9 +11,9 @@ use Rattle.replay.proofs.rows.RowsFormat.write_message.Goals as goal
 
 pub outlook-requires-clause-forward : goal.outlook-requires-clause-forward
 outlook-requires-clause-forward g c =
-    let known = c.requires.stands in
-    let late = known.1.clock c.args.origin.tick known.2 c.tick-tick.result c.tick-tick.ensures.rises in
-    let most = c.requires.tick in
+    let may = c.requires.next.0 in
+    let late = may.stands.clock c.args.origin.tick may.by c.tick-tick.result c.tick-tick.ensures.rises in
+    let most = may.tick in
     let range = c.tick-tick.ensures.range in
     (late, omega (arith, most, range))
 
@@ -21,13 +21,17 @@ pub outlook-requires-clause-place : goal.outlook-requires-clause-place
 outlook-requires-clause-place g c =
     let served = served_of c.tariff.result.now c.server.inside.settings.now c.args.server.now c.tariff.ensures c.server.view_is c.pools-pools.ensures.served in
     let there = place_is g.F.Tree.files c.args.server.now.served.tariff c.args.what.now served in
-    (rw (c.requires.stands.1.counted.station, c.pool_in-pool.ensures, c.in_ok-lookup.ensures) (omega (arith, there)), c.requires.tier)
+    (rw (c.requires.next.0.stands.counted.station, c.pool_in-pool.ensures, c.in_ok-lookup.ensures) (omega (arith, there)), c.requires.next.0.tier)
+
+pub decide_next-requires-clause-origin : goal.decide_next-requires-clause-origin
+decide_next-requires-clause-origin g c = (c.requires.next.0.tick, c.requires.next.0.tier)
 
 pub decide_next-requires-clause-stands : goal.decide_next-requires-clause-stands
 decide_next-requires-clause-stands g c =
-    let known = c.requires.stands in (
-      known.0,
-      stands_still g.F.Tree.files c.args.server.now.served known.0 c.args.decider.now c.outlook.new.self c.outlook.ensures.same known.1.counted,
+    let may = c.requires.next.0 in (
+      c.requires.next.1,
+      may.arrivals,
+      stands_still g.F.Tree.files c.args.server.now.served may.arrivals c.args.decider.now c.outlook.new.self c.outlook.ensures.same may.stands.counted,
       λ counted counts. subst (λ t. t ≤ counted) (sym c.tick-tick.ensures.value ∙ sym c.outlook.ensures.clock) (counts c.args.origin.tick (omega arith)),
     )
 
@@ -44,8 +48,14 @@ returns-in_err-pending-clause-part g c =
     on_err c.from_residual-in_err-pending.result _ (λ arrivals a stands from meaning. prefix_none c.args.writer.now.bytes _)
 
 pub returns-clause-stands : goal.returns-clause-stands
-returns-clause-stands g c = λ arrivals a stands from meaning.
-    c.in_ok-pending.ensures.stands arrivals a (stands_still g.F.Tree.files c.args.server.now.served arrivals c.args.decider.now c.outlook.new.self c.outlook.ensures.same stands) from meaning
+returns-clause-stands g c =
+    let decides = c.in_ok-pending.ensures.stands in
+    record {
+      same = decides.same;
+      number = decides.number;
+      stands = λ arrivals a stands from meaning.
+          decides.stands arrivals a (stands_still g.F.Tree.files c.args.server.now.served arrivals c.args.decider.now c.outlook.new.self c.outlook.ensures.same stands) from meaning;
+    }
 
 pub returns-in_err-write_row-clause-part : goal.returns-in_err-write_row-clause-part
 returns-in_err-write_row-clause-part g c =

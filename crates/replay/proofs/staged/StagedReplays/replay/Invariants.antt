@@ -1,12 +1,16 @@
-use Rattle.std.proofs.Common.{◌≡◌}
+use Rattle.std.proofs.Common.{[], ◌≡◌}
+use Rattle.reference.specs.Texts.{reply_texts}
 use Rattle.replay.specs.Between.{Between}
+use Rattle.replay.specs.States.{state_of}
+use Rattle.replay.specs.Waiting.{Waiting, connections_of}
 use Rattle.replay.proofs.staged.StagedReplays.replay.Given as goal
 
 -- some records were read, the messages that arrived with them are answered, and nothing waits
-abbrev pub invariant-loop-messages : goal.invariant-loop-messages
-invariant-loop-messages g l =
-    Between g.F.Tree.files l.fn.self.serving.now.server.served l.floors.1.1.1.1.1.1.0 l.version l.fn.reader.bytes l.fn.writer.bytes l.capture.progress l.capture.input.now.bytes l.tiers l.queues l.decider l.writer.bytes
+abbrev pub invariant-loop-engine : goal.invariant-loop-engine
+invariant-loop-engine g l =
+    Between (reply_texts g.F.Tree.files l.fn.self.serving.now.server.served) g.F.Tree.files l.fn.self.serving.now.server.served l.version l.fn.reader.bytes l.fn.writer.bytes l.capture.progress l.capture.input.now.bytes (state_of connections_of l.engine) l.writer.bytes
+    × Waiting [] l.engine.connections
     × (l.capture.input.ghost_name ≡ l.initial.capture.input.ghost_name) × (l.capture.input.now.failures ≡ l.fn.reader.failures) × (l.writer.failures ≡ l.fn.writer.failures)
 
-abbrev pub decreases-loop-messages : goal.decreases-loop-messages
-decreases-loop-messages g l = l.capture.progress.capacity
+abbrev pub decreases-loop-engine : goal.decreases-loop-engine
+decreases-loop-engine g l = l.capture.progress.capacity
