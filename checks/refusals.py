@@ -44,7 +44,6 @@ SIZED = {"with_capacity", "reserve", "reserve_exact", "resize", "vec"}
 CALLS = {
     ("BufReader", "with_capacity"): "its contract: the kind of its error is `OutOfMemory`",
     ("LruCache", "put"): "Result<_, AllocFailed<_>>",
-    ("Vec", "push"): "Result<(), AllocFailed<_>>",
     ("Vec", "with_capacity"): "Result<_, AllocError>",
     ("macro", "format"): "a text's: Result<_, AllocError>",
     ("macro", "vec"): "Result<_, AllocError>",

@@ -70,7 +70,7 @@ pub fn settings_named(
     }
 }
 
-/// Tells on standard output what a capture file holds.
+/// Reports on standard output what a capture file holds.
 pub fn inspect_named(
     rt: &HostRuntime,
     standard: Option<Node>,
@@ -119,16 +119,16 @@ pub fn slim_named(
 /// How many of the names that are left out are listed, each in a line. Of the others there is the count alone.
 const MAX_REPORTED: usize = 100;
 
-/// Tells of what was left out, and how many that is. Where standard error can't be written, the snapshot stands all the
+/// Reports what was left out, and how many that is. Where standard error can't be written, the snapshot stands all the
 /// same.
-fn tell_left_out(
+fn report_left_out(
     rt: &HostRuntime,
     found: &[Found],
-    whys: &[Option<FileFault>],
+    reasons: &[Option<FileFault>],
 ) -> Result<usize, AllocError> {
     let mut skipped = 0usize;
-    for (one, why) in found.iter().zip(whys) {
-        let Some(fault) = why else {
+    for (one, reason) in found.iter().zip(reasons) {
+        let Some(fault) = reason else {
             continue;
         };
         if skipped < MAX_REPORTED {
@@ -154,16 +154,16 @@ pub fn snapshot_named(
     };
     let listing = list_folder(rt, &root)?;
     let output = Overwritten::open(rt, output, Place::Output, &listing.nodes)?;
-    let mut whys = Vec::new(rt.alloc());
+    let mut reasons = Vec::new(rt.alloc());
     let ran = run_snapshot(
         rt.alloc(),
         &FileFolder::new(rt, &root, &listing),
         &listing.found,
         skip,
-        &mut whys,
+        &mut reasons,
         &mut Output::new(output),
     );
-    let skipped = tell_left_out(rt, &listing.found, &whys)?;
+    let skipped = report_left_out(rt, &listing.found, &reasons)?;
     ran?;
     if skip {
         let _ = write_skipped(skipped, &mut Output::new(rt.stderr()));

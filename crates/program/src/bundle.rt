@@ -6,7 +6,7 @@ ghost use Rattle.devices.specs.Devices.{CanFail, CountsBy};
 ghost use Rattle.program.specs.Bundles.{AfterSnapshot, BundleSays, HoldsCapture, IsBundleFault, IsProgramFault};
 ghost use Rattle.runs.specs.Failures.{reader_failures, writer_failures};
 ghost use Rattle.program.specs.Bundles.{WritesAnswer};
-ghost use Rattle.runs.specs.Ports.{Reads, Runs, Tells, reports_write, is_cut, port};
+ghost use Rattle.runs.specs.Ports.{Reads, Runs, Reports, reports_write, is_cut, port};
 
 use devices::{Input, Output};
 use faults::{Fault, Place};
@@ -84,7 +84,7 @@ pub fn bundle_into<R: Read + Drop, W: Write + Drop>(
 ) -> (Result<(), Fault>, Input<R>, Sink<W>)
     requires reading { CanFail input }
     requires writing { output.over ≡ false }
-    ensures device { Tells Place.Replies (Runs Place.Replies (BundleSays (port input result.1))
+    ensures device { Reports Place.Replies (Runs Place.Replies (BundleSays (port input result.1))
         output.bytes result.2.bytes) result.0 }
     ensures reads { AttributesReads reader_failures is_cut input.failures result.1.failures result.0 }
     ensures writes { result.2.over ≡ reports_write Place.Replies result.0 }

@@ -5,7 +5,8 @@ ghost use Rattle.std.specs.Io.KnownBytes.{Appends};
 ghost use Rattle.devices.specs.Devices.{CanFail, CountsBy};
 ghost use Rattle.report.specs.Reports.{report_text};
 ghost use Rattle.program.specs.Bundles.{HoldsCapture};
-ghost use Rattle.runs.specs.Ports.{AtDevices, AttributesWrites, RunsAtBoth, Tells, reports_write, port, IsReportFault};
+ghost use Rattle.runs.specs.Ports.{AtDevices, AttributesWrites, RunsAtBoth, Reports, reports_write, port};
+ghost use Rattle.runs.specs.Ports.{IsReportFault};
 ghost use Rattle.program.specs.Replays.{Attributes, AttributesAllReads, FilesSays, ReportsBoth, IsFilesFault};
 ghost use Rattle.program.specs.Replays.{IsReplayFault, OfSnapshot, ReplaySays, Replays, ports};
 ghost use Rattle.runs.specs.Failures.{report_failures};
@@ -200,7 +201,7 @@ pub fn replay_into<
 ) -> (Result<(), Fault>, Devices<S, C, W, O>)
     requires reading { CanFail devices.snapshot × CanFail devices.capture }
     requires writing { (devices.written.over ≡ false) × (devices.report.over ≡ false) }
-    ensures device { Tells Place.Report (Tells Place.Replies (RunsAtBoth
+    ensures device { Reports Place.Report (Reports Place.Replies (RunsAtBoth
         (ReplaySays wanted settings.now
         (port devices.snapshot result.1.snapshot) (port devices.capture result.1.capture))
         devices.written.bytes result.1.written.bytes

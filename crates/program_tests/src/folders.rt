@@ -56,16 +56,16 @@ fn found_of(alloc: Global, rows: &[Row]) -> Result<Vec<Found>, AllocError> {
 }
 
 /// Why each was left out, none where it was taken.
-type Whys = &'static [Option<FileFault>];
+type Reasons = &'static [Option<FileFault>];
 
 /// Whether these were left out, or this one couldn't be taken.
 fn is_reported(
     ran: &Result<(), Fault>,
-    whys: &[Option<FileFault>],
-    want: Result<Whys, (&str, FileFault)>,
+    reasons: &[Option<FileFault>],
+    want: Result<Reasons, (&str, FileFault)>,
 ) -> bool {
     match (ran, want) {
-        (Ok(()), Ok(wanted)) => whys == wanted,
+        (Ok(()), Ok(wanted)) => reasons == wanted,
         (Err(Fault::Folder(fault)), Err((name, why))) => {
             fault.name.as_slice() == name.as_bytes() && fault.fault == why
         }
@@ -78,7 +78,7 @@ fn check(
     rt: &(impl Abort + AllocGlobal),
     rows: &[Row],
     skip: bool,
-    want: Result<Whys, (&str, FileFault)>,
+    want: Result<Reasons, (&str, FileFault)>,
     text: &str,
 ) -> Result<(), Fail> {
     let shelf = Shelf {
@@ -86,17 +86,17 @@ fn check(
         files: &FILES,
     };
     let found = found_of(rt.alloc(), rows)?;
-    let mut whys = Vec::new(rt.alloc());
+    let mut reasons = Vec::new(rt.alloc());
     let mut device = Narrow::ample();
     let ran = run_snapshot(
         rt.alloc(),
         &shelf,
         &found,
         skip,
-        &mut whys,
+        &mut reasons,
         &mut Output::new(&mut device),
     );
-    assert!(rt; is_reported(&ran, &whys, want));
+    assert!(rt; is_reported(&ran, &reasons, want));
     assert_eq!(rt; device.text(), text.as_bytes());
     Ok(())
 }
@@ -134,7 +134,7 @@ const TWO: &str = "haboob-snapshot 1\nfile 784111777 3 3\na.b\nhi\n\nfile 0 3 0\
 #[test]
 fn taken(rt: HostRuntime) -> Result<(), Fail> {
     let none: [Row; 0] = [];
-    for (rows, skip, whys, text) in [
+    for (rows, skip, reasons, text) in [
         (ROWS.as_slice(), false, NONE.as_slice(), TEXT),
         (ROWS.as_slice(), true, NONE.as_slice(), TEXT),
         (
@@ -145,7 +145,7 @@ fn taken(rt: HostRuntime) -> Result<(), Fail> {
         ),
         (MIXED.as_slice(), true, SOME.as_slice(), TEXT),
     ] {
-        check(&rt, rows, skip, Ok(whys), text)?;
+        check(&rt, rows, skip, Ok(reasons), text)?;
     }
     Ok(())
 }
@@ -175,13 +175,13 @@ fn too_many_open(rt: HostRuntime) -> Result<(), Fail> {
         files: &FILES,
     };
     let found = found_of(rt.alloc(), &[("a.b", None), ("full", None), ("none", None)])?;
-    let mut whys = Vec::new(rt.alloc());
+    let mut reasons = Vec::new(rt.alloc());
     for skip in [false, true] {
         let mut device = Narrow::ample();
         let mut output = Output::new(&mut device);
-        let ran = run_snapshot(rt.alloc(), &shelf, &found, skip, &mut whys, &mut output);
+        let ran = run_snapshot(rt.alloc(), &shelf, &found, skip, &mut reasons, &mut output);
         assert!(rt; matches!(ran, Err(Fault::Open(Place::Folder))));
-        assert_eq!(rt; whys.as_slice(), &NONE[..1]);
+        assert_eq!(rt; reasons.as_slice(), &NONE[..1]);
         assert_eq!(rt; device.text(), ONE.as_bytes());
     }
     Ok(())
@@ -233,14 +233,14 @@ fn ends_writing(rt: &(impl Abort + AllocGlobal), good: usize) -> Result<bool, Fa
         files: &FILES,
     };
     let found = found_of(rt.alloc(), &ROWS)?;
-    let mut whys = Vec::new(rt.alloc());
+    let mut reasons = Vec::new(rt.alloc());
     let mut device = Narrow::new(8, good);
     let ran = run_snapshot(
         rt.alloc(),
         &shelf,
         &found,
         true,
-        &mut whys,
+        &mut reasons,
         &mut Output::new(&mut device),
     );
     assert!(rt; TEXT.as_bytes().starts_with(device.text()));
@@ -271,14 +271,14 @@ fn each_growth_refused(rt: HostRuntime) {
         alloc: rt.alloc(),
         files: &FILES,
     };
-    let mut whys = Vec::new(rt.alloc());
+    let mut reasons = Vec::new(rt.alloc());
     let mut device = Narrow::ample();
     let ran = run_snapshot(
         rt.alloc(),
         &shelf,
         &found,
         false,
-        &mut whys,
+        &mut reasons,
         &mut Output::new(&mut device),
     );
     match ran {

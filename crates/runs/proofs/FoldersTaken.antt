@@ -1,14 +1,11 @@
 -- From what becomes of each file to what the run that writes a snapshot says.
-use Rattle.devices.proofs.Appending.{prefix_all, prefix_first}
-use Rattle.devices.specs.Reference.{line_feed}
+use Rattle.devices.proofs.Appending.{prefix_none}
 use Rattle.devices.specs.Devices.{Device, AppendsPrefix}
-use Rattle.std.proofs.Common.{◌≡◌, ◌≢◌, ◌⊎◌, inl, inr, ℕ, ◌+◌, ◌<◌, ◌≤◌, Bool, true, false, List, [], ◌∷◌, ◌++◌, length, map, take, drop, get_or, is_some, Option, Some, None, Result, Ok, Err, IfOk, IfErr, OnOk, MatchResult, refl, sym, ap, ap₂, ◌∙◌, subst, arith, decimal, append-nil}
-use Rattle.std.proofs.lemmas.Fmt.{length-decimal-le}
-use Rattle.std.proofs.lemmas.List.{append_assoc, length-append, map-append, take_more, drop_more, take_all, take-append-drop}
+use Rattle.std.proofs.Common.{◌≡◌, ◌≢◌, ◌⊎◌, inl, inr, ℕ, ◌+◌, ◌<◌, ◌≤◌, Bool, true, false, List, [], ◌∷◌, ◌++◌, length, map, take, drop, get_or, is_some, Option, Some, None, Result, Ok, Err, IfOk, IfErr, OnOk, MatchResult, refl, sym, ap, ap₂, ◌∙◌, subst, append-nil}
+use Rattle.std.proofs.lemmas.List.{append_assoc, map-append, take_more, take_all, take-append-drop}
 use Rattle.std.specs.Io.KnownBytes.{Appends}
 use Rattle.paths.specs.declared.file.File.{File}
-use Rattle.paths.specs.Snapshots.{last_line, text_before_end, snapshot_text, IsSnapshotText}
-use Rattle.paths.proofs.FilesOrFault.{rules_none}
+use Rattle.paths.specs.Snapshots.{text_before_end, snapshot_text}
 use Rattle.snapshots.specs.declared.so_far.FilesSoFar.{FilesSoFar}
 use Rattle.snapshots.specs.declared.write_fault.WriteFault.{WriteFault}
 use Rattle.snapshots.specs.declared.write_fault.WriteFault.TheVariants as rules
@@ -16,13 +13,12 @@ use Rattle.snapshots.specs.Keeping.{a_file, broken_rule}
 use Rattle.snapshots.specs.Writers.{Took, refused_for}
 use Rattle.snapshots.proofs.Taken.{whole}
 use Rattle.faults.specs.declared.fault.Fault.{Fault}
-use Rattle.faults.specs.declared.fault.Fault.TheVariants.{Open, Write, Memory}
+use Rattle.faults.specs.declared.fault.Fault.TheVariants.{Write, Memory}
 use Rattle.faults.specs.declared.folder_fault.FileFault.{FileFault}
 use Rattle.runs.specs.declared.folder.Contents.{Contents}
 use Rattle.runs.specs.declared.folder.Found.{Found}
 use Rattle.faults.specs.declared.fault.Place.TheVariants.{Output}
-use Rattle.faults.specs.declared.fault.Place.TheVariants as places
-use Rattle.runs.specs.Folders.{Answering, AddsFile, AddsFound, Breaks, Cuts, CutsFile, CutsFound, IsOutputFault, IsRefused, IsSnapshotRunFault, IsTaken, Names, Takes, WritesFolder, WritesFolderPrefix, name_of, names_taken, none_left_out, refusal, unwritten}
+use Rattle.runs.specs.Folders.{Answering, AddsFile, AddsFound, Breaks, Cuts, CutsFile, CutsFound, GoesThrough, IsRefused, IsSnapshotRunFault, IsTaken, Names, RefusesFound, StopsAt, Takes, WritesFolder, name_of, names_taken, none_left_out, refusal, unwritten}
 
 -- ---- the first line and the last
 
@@ -37,30 +33,23 @@ cut_by text old new rules.Text h = (inr refl, h)
 cut_by text old new rules.Write h = (inl refl, h)
 cut_by text old new rules.Memory h = (inr refl, h)
 
-no_files : IsSnapshotText (snapshot_text []) []
-no_files = record {
-  text = refl;
-  rules = rules_none;
-  size = (let digit = length-decimal-le 1 0 (omega arith) (omega arith) (omega arith) in omega (arith, digit, length-append (decimal 0) (line_feed ∷ [])));
-}
-
 -- ---- one file
 
 still : (files : List File) (before : Option (List ℕ)) (old new : Device) (s next : FilesSoFar) → (next ≡ s) × (new ≡ old) → Took files before old.bytes s → Took files before new.bytes next
 still files before old new s next same took = rw (same.0, same.1) took
 
-pub file_refused : (files : List File) (before : Option (List ℕ)) (f : File) (old new : Device) (s next : FilesSoFar) (fault : WriteFault) (why : FileFault) → refusal fault ≡ Ok why
+pub file_refused : (files : List File) (before : Option (List ℕ)) (f : File) (old new : Device) (s next : FilesSoFar) (fault : WriteFault) (reason : FileFault) → refusal fault ≡ Ok reason
     → (fault ≢ rules.Write → (next ≡ s) × (new ≡ old)) → refused_for (Err fault) ≡ broken_rule files f → Took files before old.bytes s
-    → Breaks files f why × Took files before new.bytes next
-file_refused files before f old new s next rules.Time why is same rule took = ((rules.Time, sym rule, is), still files before old new s next (same (λ e. cc)) took)
-file_refused files before f old new s next rules.Size why is same rule took = ((rules.Size, sym rule, is), still files before old new s next (same (λ e. cc)) took)
-file_refused files before f old new s next rules.Count why is same rule took = ((rules.Count, sym rule, is), still files before old new s next (same (λ e. cc)) took)
-file_refused files before f old new s next rules.Name why is same rule took = ((rules.Name, sym rule, is), still files before old new s next (same (λ e. cc)) took)
-file_refused files before f old new s next rules.Order why is same rule took = ((rules.Order, sym rule, is), still files before old new s next (same (λ e. cc)) took)
-file_refused files before f old new s next rules.Conflict why is same rule took = ((rules.Conflict, sym rule, is), still files before old new s next (same (λ e. cc)) took)
-file_refused files before f old new s next rules.Text why is same rule took = ((rules.Text, sym rule, is), still files before old new s next (same (λ e. cc)) took)
-file_refused files before f old new s next rules.Write why is same rule took = cc
-file_refused files before f old new s next rules.Memory why is same rule took = cc
+    → Breaks files f reason × Took files before new.bytes next
+file_refused files before f old new s next rules.Time reason is same rule took = ((rules.Time, sym rule, is), still files before old new s next (same (λ e. cc)) took)
+file_refused files before f old new s next rules.Size reason is same rule took = ((rules.Size, sym rule, is), still files before old new s next (same (λ e. cc)) took)
+file_refused files before f old new s next rules.Count reason is same rule took = ((rules.Count, sym rule, is), still files before old new s next (same (λ e. cc)) took)
+file_refused files before f old new s next rules.Name reason is same rule took = ((rules.Name, sym rule, is), still files before old new s next (same (λ e. cc)) took)
+file_refused files before f old new s next rules.Order reason is same rule took = ((rules.Order, sym rule, is), still files before old new s next (same (λ e. cc)) took)
+file_refused files before f old new s next rules.Conflict reason is same rule took = ((rules.Conflict, sym rule, is), still files before old new s next (same (λ e. cc)) took)
+file_refused files before f old new s next rules.Text reason is same rule took = ((rules.Text, sym rule, is), still files before old new s next (same (λ e. cc)) took)
+file_refused files before f old new s next rules.Write reason is same rule took = cc
+file_refused files before f old new s next rules.Memory reason is same rule took = cc
 
 pub file_cut : (files : List File) (before : Option (List ℕ)) (f : File) (old new : Device) (s next : FilesSoFar) (fault : WriteFault) (reported : Fault) → refusal fault ≡ Err reported
     → (fault ≡ rules.Write → AppendsPrefix before new.bytes (text_before_end (files ++ f ∷ [])))
@@ -96,7 +85,7 @@ found_ok answers files before found c (Err f) now s known says h = tt
 cut_found : (answers : Answering) (files : List File) (before : Option (List ℕ)) (found : Found) (c : Contents) (reported : Fault) (now : Option (List ℕ)) → found.fault ≡ None → answers (name_of found) (Ok c)
     → CutsFile files before (a_file (name_of found) c.mtime c.bytes.items) now reported → CutsFound answers files before found now reported
 cut_found answers files before found c reported now known says (inl h) = inl (h.0, a_file (name_of found) c.mtime c.bytes.items, ((c, known, says, refl), h.1), h.2)
-cut_found answers files before found c reported now known says (inr h) = inr (inl h.0, h.1)
+cut_found answers files before found c reported now known says (inr h) = inr (inl h.0, known, h.1)
 
 pub found_err : (answers : Answering) (files : List File) (before : Option (List ℕ)) (found : Found) (c : Contents) (r : Result (Option FileFault) Fault) (now : Option (List ℕ)) → found.fault ≡ None → answers (name_of found) (Ok c)
     → IfErr r (CutsFile files before (a_file (name_of found) c.mtime c.bytes.items) now) → IfErr r (CutsFound answers files before found now)
@@ -105,43 +94,43 @@ found_err answers files before found c (Err f) now known says h = cut_found answ
 
 -- ---- all that was found
 
-takes_one : (answers : Answering) (before : List File) (xs : List Found) (x : Found) (mid : List File) (whys : List (Option FileFault)) (f : File) → Takes answers before xs mid whys → IsTaken answers mid x f
-    → Takes answers before (xs ++ x ∷ []) (mid ++ f ∷ []) (whys ++ None ∷ [])
+takes_one : (answers : Answering) (before : List File) (xs : List Found) (x : Found) (mid : List File) (reasons : List (Option FileFault)) (f : File) → Takes answers before xs mid reasons → IsTaken answers mid x f
+    → Takes answers before (xs ++ x ∷ []) (mid ++ f ∷ []) (reasons ++ None ∷ [])
 takes_one answers before [] x mid [] f h taken = (f, subst (λ (fs : List File). IsTaken answers fs x f) h taken, ap (λ (fs : List File). fs ++ f ∷ []) h)
-takes_one answers before [] x mid (why ∷ whys) f h taken = absurd h
+takes_one answers before [] x mid (reason ∷ reasons) f h taken = absurd h
 takes_one answers before (y ∷ xs) x mid [] f h taken = absurd h
-takes_one answers before (y ∷ xs) x mid (None ∷ whys) f h taken = (h.0, h.1, takes_one answers (before ++ h.0 ∷ []) xs x mid whys f h.2 taken)
-takes_one answers before (y ∷ xs) x mid (Some fault ∷ whys) f h taken = (h.0, takes_one answers before xs x mid whys f h.1 taken)
+takes_one answers before (y ∷ xs) x mid (None ∷ reasons) f h taken = (h.0, h.1, takes_one answers (before ++ h.0 ∷ []) xs x mid reasons f h.2 taken)
+takes_one answers before (y ∷ xs) x mid (Some fault ∷ reasons) f h taken = (h.0, takes_one answers before xs x mid reasons f h.1 taken)
 
-leaves_one : (answers : Answering) (before : List File) (xs : List Found) (x : Found) (mid : List File) (whys : List (Option FileFault)) (fault : FileFault) → Takes answers before xs mid whys → IsRefused answers mid x fault
-    → Takes answers before (xs ++ x ∷ []) mid (whys ++ Some fault ∷ [])
+leaves_one : (answers : Answering) (before : List File) (xs : List Found) (x : Found) (mid : List File) (reasons : List (Option FileFault)) (fault : FileFault) → Takes answers before xs mid reasons → IsRefused answers mid x fault
+    → Takes answers before (xs ++ x ∷ []) mid (reasons ++ Some fault ∷ [])
 leaves_one answers before [] x mid [] fault h refused = (subst (λ (fs : List File). IsRefused answers fs x fault) h refused, h)
-leaves_one answers before [] x mid (why ∷ whys) fault h refused = absurd h
+leaves_one answers before [] x mid (reason ∷ reasons) fault h refused = absurd h
 leaves_one answers before (y ∷ xs) x mid [] fault h refused = absurd h
-leaves_one answers before (y ∷ xs) x mid (None ∷ whys) fault h refused = (h.0, h.1, leaves_one answers (before ++ h.0 ∷ []) xs x mid whys fault h.2 refused)
-leaves_one answers before (y ∷ xs) x mid (Some other ∷ whys) fault h refused = (h.0, leaves_one answers before xs x mid whys fault h.1 refused)
+leaves_one answers before (y ∷ xs) x mid (None ∷ reasons) fault h refused = (h.0, h.1, leaves_one answers (before ++ h.0 ∷ []) xs x mid reasons fault h.2 refused)
+leaves_one answers before (y ∷ xs) x mid (Some other ∷ reasons) fault h refused = (h.0, leaves_one answers before xs x mid reasons fault h.1 refused)
 
 -- the names of the files
 abbrev own_name : File → List ℕ
 own_name f = f.name
 
-names_are : (answers : Answering) (before : List File) (found : List Found) (files : List File) (whys : List (Option FileFault)) → Takes answers before found files whys → map own_name files ≡ map own_name before ++ names_taken found whys
+names_are : (answers : Answering) (before : List File) (found : List Found) (files : List File) (reasons : List (Option FileFault)) → Takes answers before found files reasons → map own_name files ≡ map own_name before ++ names_taken found reasons
 names_are answers before [] files [] h = ap (map own_name) h ∙ sym (append-nil (map own_name before))
-names_are answers before [] files (why ∷ whys) h = absurd h
+names_are answers before [] files (reason ∷ reasons) h = absurd h
 names_are answers before (x ∷ found) files [] h = absurd h
-names_are answers before (x ∷ found) files (None ∷ whys) h =
+names_are answers before (x ∷ found) files (None ∷ reasons) h =
     let own : h.0.name ≡ name_of x = ap own_name h.1.0.3 in
-    names_are answers (before ++ h.0 ∷ []) found files whys h.2 ∙ ap (λ (ns : List (List ℕ)). ns ++ names_taken found whys) (map-append own_name before (h.0 ∷ []))
-    ∙ append_assoc (map own_name before) (h.0.name ∷ []) (names_taken found whys)
-    ∙ ap (λ (n : List ℕ). map own_name before ++ n ∷ names_taken found whys) own
-names_are answers before (x ∷ found) files (Some fault ∷ whys) h = names_are answers before found files whys h.1
+    names_are answers (before ++ h.0 ∷ []) found files reasons h.2 ∙ ap (λ (ns : List (List ℕ)). ns ++ names_taken found reasons) (map-append own_name before (h.0 ∷ []))
+    ∙ append_assoc (map own_name before) (h.0.name ∷ []) (names_taken found reasons)
+    ∙ ap (λ (n : List ℕ). map own_name before ++ n ∷ names_taken found reasons) own
+names_are answers before (x ∷ found) files (Some fault ∷ reasons) h = names_are answers before found files reasons h.1
 
 -- what stands after n of what was found
-pub record Stands (answers : Answering) (found : List Found) (at : ℕ) (skip : Bool) (whys : List (Option FileFault)) (before now : Option (List ℕ)) (s : FilesSoFar) : Type 0 where
+pub record Stands (answers : Answering) (found : List Found) (at : ℕ) (skip : Bool) (reasons : List (Option FileFault)) (before now : Option (List ℕ)) (s : FilesSoFar) : Type 0 where
   pub files : List File
-  pub takes : Takes answers [] (take at found) files whys
+  pub takes : Takes answers [] (take at found) files reasons
   pub took : Took files before now s
-  pub all : skip ≡ false → whys ≡ none_left_out (take at found)
+  pub all : skip ≡ false → reasons ≡ none_left_out (take at found)
 
 pub stands_none : (answers : Answering) (found : List Found) (skip : Bool) (before now : Option (List ℕ)) (s : FilesSoFar) → Took [] before now s → Stands answers found 0 skip [] before now s
 stands_none answers found skip before now s took = record { files = []; takes = refl; took = took; all = λ e. refl }
@@ -153,28 +142,28 @@ not_left one = None
 first_more : (found : List Found) (at : ℕ) (item : Found) → at < length found → item ≡ get_or found at item → take at found ++ item ∷ [] ≡ take (at + 1) found
 first_more found at item lt is = ap (λ (x : Found). take at found ++ x ∷ []) is ∙ sym (take_more found at item lt)
 
-none_more : (found : List Found) (at : ℕ) (item : Found) (whys : List (Option FileFault)) (why : Option FileFault) → at < length found → item ≡ get_or found at item → whys ≡ none_left_out (take at found) → why ≡ None
-    → whys ++ why ∷ [] ≡ none_left_out (take (at + 1) found)
-none_more found at item whys why lt is none isnt =
+none_more : (found : List Found) (at : ℕ) (item : Found) (reasons : List (Option FileFault)) (reason : Option FileFault) → at < length found → item ≡ get_or found at item → reasons ≡ none_left_out (take at found) → reason ≡ None
+    → reasons ++ reason ∷ [] ≡ none_left_out (take (at + 1) found)
+none_more found at item reasons reason lt is none isnt =
     ap₂ (λ (ws : List (Option FileFault)) (w : Option FileFault). ws ++ w ∷ []) none isnt
     ∙ sym (map-append not_left (take at found) (item ∷ []))
     ∙ ap none_left_out (first_more found at item lt is)
 
-pub stands_more : (answers : Answering) (found : List Found) (at : ℕ) (skip : Bool) (whys : List (Option FileFault)) (why : Option FileFault) (before now new : Option (List ℕ)) (s next : FilesSoFar) (item : Found) → at < length found → item ≡ get_or found at item
-    → (stands : Stands answers found at skip whys before now s) → (skip ≡ false → why ≡ None) → AddsFound answers stands.files before item why new next → Stands answers found (at + 1) skip (whys ++ why ∷ []) before new next
-stands_more answers found at skip whys None before now new s next item lt is stands only adds = record {
+pub stands_more : (answers : Answering) (found : List Found) (at : ℕ) (skip : Bool) (reasons : List (Option FileFault)) (reason : Option FileFault) (before now new : Option (List ℕ)) (s next : FilesSoFar) (item : Found) → at < length found → item ≡ get_or found at item
+    → (stands : Stands answers found at skip reasons before now s) → (skip ≡ false → reason ≡ None) → AddsFound answers stands.files before item reason new next → Stands answers found (at + 1) skip (reasons ++ reason ∷ []) before new next
+stands_more answers found at skip reasons None before now new s next item lt is stands only adds = record {
   files = stands.files ++ adds.0 ∷ [];
-  takes = subst (λ (fs : List Found). Takes answers [] fs (stands.files ++ adds.0 ∷ []) (whys ++ None ∷ [])) (first_more found at item lt is)
-      (takes_one answers [] (take at found) item stands.files whys adds.0 stands.takes adds.1);
+  takes = subst (λ (fs : List Found). Takes answers [] fs (stands.files ++ adds.0 ∷ []) (reasons ++ None ∷ [])) (first_more found at item lt is)
+      (takes_one answers [] (take at found) item stands.files reasons adds.0 stands.takes adds.1);
   took = adds.2;
-  all = λ e. none_more found at item whys None lt is (stands.all e) refl;
+  all = λ e. none_more found at item reasons None lt is (stands.all e) refl;
 }
-stands_more answers found at skip whys (Some fault) before now new s next item lt is stands only adds = record {
+stands_more answers found at skip reasons (Some fault) before now new s next item lt is stands only adds = record {
   files = stands.files;
-  takes = subst (λ (fs : List Found). Takes answers [] fs stands.files (whys ++ Some fault ∷ [])) (first_more found at item lt is)
-      (leaves_one answers [] (take at found) item stands.files whys fault stands.takes adds.0);
+  takes = subst (λ (fs : List Found). Takes answers [] fs stands.files (reasons ++ Some fault ∷ [])) (first_more found at item lt is)
+      (leaves_one answers [] (take at found) item stands.files reasons fault stands.takes adds.0);
   took = adds.1;
-  all = λ e. none_more found at item whys (Some fault) lt is (stands.all e) (only e);
+  all = λ e. none_more found at item reasons (Some fault) lt is (stands.all e) (only e);
 }
 
 -- a list is its first items, one, and the rest
@@ -184,99 +173,61 @@ parted found at item lt is =
     ∙ (ap (λ (fs : List Found). fs ++ drop (at + 1) found) (take_more found at item lt ∙ ap (λ (x : Found). take at found ++ x ∷ []) (sym is))
     ∙ append_assoc (take at found) (item ∷ []) (drop (at + 1) found))
 
+-- what stands was gone through
+through : (answers : Answering) (found : List Found) (at : ℕ) (skip : Bool) (reasons : List (Option FileFault)) (old now : Option (List ℕ)) (s : FilesSoFar) → (stands : Stands answers found at skip reasons old now s) → GoesThrough answers (take at found) skip reasons stands.files
+through answers found at skip reasons old now s stands = (stands.takes, stands.all, whole stands.files old now s stands.took)
+
 -- ---- faults
 
-pub none_begun : (answers : Answering) (found : List Found) (skip : Bool) (old new : Option (List ℕ)) (f : Fault) → Cuts (text_before_end []) old new f → IsSnapshotRunFault answers found skip [] old new f
-none_begun answers found skip old new f h =
-    inl (inl h.0, ([], found, [], refl, refl, λ e. refl, no_files, inl (prefix_first old new (text_before_end []) (last_line [] ++ line_feed ∷ []) h.1)))
+pub none_begun : (answers : Answering) (found : List Found) (skip : Bool) (reasons : List (Option FileFault)) (old new : Option (List ℕ)) (f : Fault) → reasons ≡ [] → Cuts (text_before_end []) old new f → IsSnapshotRunFault answers found skip reasons old new f
+none_begun answers found skip reasons old new f none h = inl (none, h)
 
--- out of memory between two files
-kept_prefix : (answers : Answering) (found : List Found) (at : ℕ) (skip : Bool) (whys : List (Option FileFault)) (old now new was : Option (List ℕ)) (s next : FilesSoFar) → (stands : Stands answers found at skip whys old now s) → Took stands.files old was next
-    → Appends old new (text_before_end stands.files) → WritesFolderPrefix answers found skip whys old new
-kept_prefix answers found at skip whys old now new was s next stands took h = (
+-- out of memory before the first line
+pub none_reserved : (answers : Answering) (found : List Found) (skip : Bool) (reasons : List (Option FileFault)) (old : Option (List ℕ)) → reasons ≡ [] → IsSnapshotRunFault answers found skip reasons old old Memory
+none_reserved answers found skip reasons old none = inl (none, (inr refl, prefix_none old (text_before_end [])))
+
+stops_at : (answers : Answering) (found : List Found) (at : ℕ) (skip : Bool) (reasons : List (Option FileFault)) (old now new : Option (List ℕ)) (s : FilesSoFar) (item : Found) (reported : Fault) → at < length found → item ≡ get_or found at item
+    → (stands : Stands answers found at skip reasons old now s) → CutsFound answers stands.files old item new reported ⊎ RefusesFound answers stands.files skip old item new reported → StopsAt answers found skip reasons old new reported
+stops_at answers found at skip reasons old now new s item reported lt is stands h = (
   take at found,
-  drop at found,
+  item,
+  drop (at + 1) found,
   stands.files,
-  sym (take-append-drop at found),
-  stands.takes,
-  stands.all,
-  whole stands.files old was next took,
-  inl (prefix_first old new (text_before_end stands.files) (last_line stands.files ++ line_feed ∷ []) (prefix_all old new (text_before_end stands.files) h)),
+  parted found at item lt is,
+  through answers found at skip reasons old now s stands,
+  h,
 )
 
-cut_prefix : (answers : Answering) (found : List Found) (at : ℕ) (skip : Bool) (whys : List (Option FileFault)) (old now new : Option (List ℕ)) (s : FilesSoFar) (item : Found) (f : File) → at < length found → item ≡ get_or found at item
-    → (stands : Stands answers found at skip whys old now s) → IsTaken answers stands.files item f → AppendsPrefix old new (text_before_end (stands.files ++ f ∷ [])) → WritesFolderPrefix answers found skip whys old new
-cut_prefix answers found at skip whys old now new s item f lt is stands taken h = (
-  take at found,
-  drop at found,
-  stands.files,
-  sym (take-append-drop at found),
-  stands.takes,
-  stands.all,
-  whole stands.files old now s stands.took,
-  inr (item, drop (at + 1) found, f, drop_more found at item lt ∙ ap (λ (x : Found). x ∷ drop (at + 1) found) (sym is), taken, h),
-)
+pub stopped : (answers : Answering) (found : List Found) (at : ℕ) (skip : Bool) (reasons : List (Option FileFault)) (old now new : Option (List ℕ)) (s : FilesSoFar) (item : Found) (reported : Fault) → at < length found → item ≡ get_or found at item
+    → (stands : Stands answers found at skip reasons old now s) → CutsFound answers stands.files old item new reported → IsSnapshotRunFault answers found skip reasons old new reported
+stopped answers found at skip reasons old now new s item reported lt is stands h = inr (inl (stops_at answers found at skip reasons old now new s item reported lt is stands (inl h)))
 
-cut_short : {reported : Fault} → (reported ≡ Memory) ⊎ (reported ≡ Open places.Folder) → IsOutputFault reported ⊎ (reported ≡ Open places.Folder)
-cut_short (inl memory) = inl (inr memory)
-cut_short (inr opening) = inr opening
+refuses : (answers : Answering) (files : List File) (skip : Bool) (old new : Option (List ℕ)) (next : FilesSoFar) (item : Found) (reason : Option FileFault) (reported : Fault) → AddsFound answers files old item reason new next
+    → (skip ≡ false) × ((fault : FileFault) × (reason ≡ Some fault) × Names (name_of item) fault reported) → RefusesFound answers files skip old item new reported
+refuses answers files skip old new next item reason reported adds h =
+    let refused = subst (λ (r : Option FileFault). AddsFound answers files old item r new next) h.1.1 adds in
+    (h.0, (h.1.0, refused.0, h.1.2), refused.1.text)
 
-pub stopped : (answers : Answering) (found : List Found) (at : ℕ) (skip : Bool) (whys : List (Option FileFault)) (old now new : Option (List ℕ)) (s : FilesSoFar) (item : Found) (reported : Fault) → at < length found → item ≡ get_or found at item
-    → (stands : Stands answers found at skip whys old now s) → CutsFound answers stands.files old item new reported → IsSnapshotRunFault answers found skip whys old new reported
-stopped answers found at skip whys old now new s item reported lt is stands (inl h) = inl (inl (inl h.0), cut_prefix answers found at skip whys old now new s item h.1 lt is stands h.2 h.3)
-stopped answers found at skip whys old now new s item reported lt is stands (inr h) = inl (cut_short h.0, kept_prefix answers found at skip whys old now new now s s stands stands.took h.1)
-
--- out of memory for what became of one of what was found
-pub unnoted : (answers : Answering) (found : List Found) (at : ℕ) (skip : Bool) (whys : List (Option FileFault)) (why : Option FileFault) (old now new : Option (List ℕ)) (s next : FilesSoFar) (item : Found) → at < length found → item ≡ get_or found at item
-    → (stands : Stands answers found at skip whys old now s) → AddsFound answers stands.files old item why new next → IsSnapshotRunFault answers found skip whys old new Memory
-unnoted answers found at skip whys None old now new s next item lt is stands adds =
-    inl (inl (inr refl), cut_prefix answers found at skip whys old now new s item adds.0 lt is stands adds.1 (prefix_all old new (text_before_end (stands.files ++ adds.0 ∷ [])) adds.2.text))
-unnoted answers found at skip whys (Some fault) old now new s next item lt is stands adds =
-    inl (inl (inr refl), kept_prefix answers found at skip whys old now new new s next stands adds.1 adds.1.text)
-
-refused_first : (answers : Answering) (found : List Found) (at : ℕ) (skip : Bool) (whys : List (Option FileFault)) (old now new : Option (List ℕ)) (s next : FilesSoFar) (item : Found) (fault : FileFault) (reported : Fault) → at < length found → item ≡ get_or found at item → skip ≡ false
-    → (stands : Stands answers found at skip whys old now s) → AddsFound answers stands.files old item (Some fault) new next → Names (name_of item) fault reported → IsSnapshotRunFault answers found skip whys old new reported
-refused_first answers found at skip whys old now new s next item fault reported lt is never stands adds (inl memory) =
-    inl (inl (inr memory), kept_prefix answers found at skip whys old now new new s next stands adds.1 adds.1.text)
-refused_first answers found at skip whys old now new s next item fault reported lt is never stands adds (inr named) =
-    inr (
-      named.0,
-      named.1,
-      never,
-      (
-        take at found,
-        item,
-        drop (at + 1) found,
-        stands.files,
-        parted found at item lt is,
-        stands.takes,
-        stands.all never,
-        subst (λ (x : FileFault). IsRefused answers stands.files item x) (sym named.3) adds.0,
-        named.2,
-        adds.1.text,
-      ),
-    )
-
-pub refused_now : (answers : Answering) (found : List Found) (at : ℕ) (skip : Bool) (whys : List (Option FileFault)) (why : Option FileFault) (old now new : Option (List ℕ)) (s next : FilesSoFar) (item : Found) (reported : Fault) → at < length found → item ≡ get_or found at item
-    → (stands : Stands answers found at skip whys old now s) → AddsFound answers stands.files old item why new next → (skip ≡ false) × ((fault : FileFault) × (why ≡ Some fault) × Names (name_of item) fault reported)
-    → IsSnapshotRunFault answers found skip whys old new reported
-refused_now answers found at skip whys why old now new s next item reported lt is stands adds h =
-    refused_first answers found at skip whys old now new s next item h.1.0 reported lt is h.0 stands (subst (λ (w : Option FileFault). AddsFound answers stands.files old item w new next) h.1.1 adds) h.1.2
+pub refused_now : (answers : Answering) (found : List Found) (at : ℕ) (skip : Bool) (reasons : List (Option FileFault)) (reason : Option FileFault) (old now new : Option (List ℕ)) (s next : FilesSoFar) (item : Found) (reported : Fault) → at < length found → item ≡ get_or found at item
+    → (stands : Stands answers found at skip reasons old now s) → AddsFound answers stands.files old item reason new next → (skip ≡ false) × ((fault : FileFault) × (reason ≡ Some fault) × Names (name_of item) fault reported)
+    → IsSnapshotRunFault answers found skip reasons old new reported
+refused_now answers found at skip reasons reason old now new s next item reported lt is stands adds h =
+    inr (inl (stops_at answers found at skip reasons old now new s item reported lt is stands (inr (refuses answers stands.files skip old new next item reason reported adds h))))
 
 -- ---- the end
 
-all_taken : (answers : Answering) (found : List Found) (at : ℕ) (files : List File) (whys : List (Option FileFault)) → length found ≤ at → Takes answers [] (take at found) files whys → Takes answers [] found files whys
-all_taken answers found at files whys le takes = subst (λ (fs : List Found). Takes answers [] fs files whys) (take_all at found le) takes
+all_through : (answers : Answering) (found : List Found) (at : ℕ) (skip : Bool) (reasons : List (Option FileFault)) (old now : Option (List ℕ)) (s : FilesSoFar) → length found ≤ at → (stands : Stands answers found at skip reasons old now s) → GoesThrough answers found skip reasons stands.files
+all_through answers found at skip reasons old now s le stands =
+    subst (λ (fs : List Found). GoesThrough answers fs skip reasons stands.files) (take_all at found le) (through answers found at skip reasons old now s stands)
 
-pub ended : (answers : Answering) (found : List Found) (at : ℕ) (skip : Bool) (whys : List (Option FileFault)) (old now new : Option (List ℕ)) (s : FilesSoFar) (r : Result Unit Fault) → length found ≤ at
-    → (stands : Stands answers found at skip whys old now s) → MatchResult r (λ done. Appends old new (snapshot_text stands.files)) (Cuts (snapshot_text stands.files) old new) → OnOk r (WritesFolder answers found skip whys old new)
-ended answers found at skip whys old now new s (Ok done) le stands h =
-    let takes = all_taken answers found at stands.files whys le stands.takes in
-    (stands.files, takes, (λ e. stands.all e ∙ ap none_left_out (take_all at found le)), names_are answers [] found stands.files whys takes, whole stands.files old now s stands.took, h)
-ended answers found at skip whys old now new s (Err f) le stands h = tt
+pub ended : (answers : Answering) (found : List Found) (at : ℕ) (skip : Bool) (reasons : List (Option FileFault)) (old now new : Option (List ℕ)) (s : FilesSoFar) (r : Result Unit Fault) → length found ≤ at
+    → (stands : Stands answers found at skip reasons old now s) → MatchResult r (λ done. Appends old new (snapshot_text stands.files)) (Cuts (snapshot_text stands.files) old new) → OnOk r (WritesFolder answers found skip reasons old new)
+ended answers found at skip reasons old now new s (Ok done) le stands h =
+    let all = all_through answers found at skip reasons old now s le stands in
+    (stands.files, all, names_are answers [] found stands.files reasons all.0, h)
+ended answers found at skip reasons old now new s (Err f) le stands h = tt
 
-pub unended : (answers : Answering) (found : List Found) (at : ℕ) (skip : Bool) (whys : List (Option FileFault)) (old now new : Option (List ℕ)) (s : FilesSoFar) (r : Result Unit Fault) → length found ≤ at
-    → (stands : Stands answers found at skip whys old now s) → MatchResult r (λ done. Appends old new (snapshot_text stands.files)) (Cuts (snapshot_text stands.files) old new) → IfErr r (IsSnapshotRunFault answers found skip whys old new)
-unended answers found at skip whys old now new s (Ok done) le stands h = tt
-unended answers found at skip whys old now new s (Err f) le stands h =
-    inl (inl h.0, (found, [], stands.files, sym (append-nil found), all_taken answers found at stands.files whys le stands.takes, (λ e. stands.all e ∙ ap none_left_out (take_all at found le)), whole stands.files old now s stands.took, inl h.1))
+pub unended : (answers : Answering) (found : List Found) (at : ℕ) (skip : Bool) (reasons : List (Option FileFault)) (old now new : Option (List ℕ)) (s : FilesSoFar) (r : Result Unit Fault) → length found ≤ at
+    → (stands : Stands answers found at skip reasons old now s) → MatchResult r (λ done. Appends old new (snapshot_text stands.files)) (Cuts (snapshot_text stands.files) old new) → IfErr r (IsSnapshotRunFault answers found skip reasons old new)
+unended answers found at skip reasons old now new s (Ok done) le stands h = tt
+unended answers found at skip reasons old now new s (Err f) le stands h = inr (inr (stands.files, all_through answers found at skip reasons old now s le stands, h))

@@ -18,7 +18,7 @@ use Rattle.faults.specs.declared.folder_fault.FolderFault.{FolderFault}
 use Rattle.runs.specs.declared.folder.Contents.{Contents}
 use Rattle.runs.specs.declared.folder.Found.{Found}
 use Rattle.runs.specs.declared.folder.Unanswered.{Unanswered}
-use Rattle.runs.specs.declared.folder.Unanswered.TheVariants as whys
+use Rattle.runs.specs.declared.folder.Unanswered.TheVariants as lacks
 use Rattle.faults.specs.declared.fault.Place.TheVariants.{Output}
 use Rattle.faults.specs.declared.fault.Place.TheVariants as places
 use Rattle.faults.specs.FaultLines.{shown_name}
@@ -44,8 +44,8 @@ refusal rules.Memory = Err Memory
 
 -- where a folder says nothing of a file, the run is cut short
 abbrev pub unanswered : Unanswered → Fault
-unanswered whys.Memory = Memory
-unanswered whys.Descriptors = Open places.Folder
+unanswered lacks.Memory = Memory
+unanswered lacks.Descriptors = Open places.Folder
 
 -- this is why the file can't stand in a snapshot after these files
 abbrev pub Breaks : List File → File → FileFault → Type 0
@@ -68,14 +68,14 @@ IsRefused answers files found fault =
     ⊎ (((found.fault ≡ None) × answers (name_of found) (Err fault))
     ⊎ ((f : File) × IsFileOf answers found f × Breaks files f fault))
 
--- Each of what was found is taken, as the next file after those before, or it isn't: `whys` has for each why not.
+-- Each of what was found is taken, as the next file after those before, or it isn't: `reasons` has for each why not.
 abbrev pub Takes : Answering → List File → List Found → List File → List (Option FileFault) → Type 0
 Takes answers before [] files [] = files ≡ before
-Takes answers before (found ∷ more) files (None ∷ whys) =
-    (f : File) × IsTaken answers before found f × Takes answers (before ++ f ∷ []) more files whys
-Takes answers before (found ∷ more) files (Some fault ∷ whys) =
-    IsRefused answers before found fault × Takes answers before more files whys
-Takes answers before found files whys = ⊥
+Takes answers before (found ∷ more) files (None ∷ reasons) =
+    (f : File) × IsTaken answers before found f × Takes answers (before ++ f ∷ []) more files reasons
+Takes answers before (found ∷ more) files (Some fault ∷ reasons) =
+    IsRefused answers before found fault × Takes answers before more files reasons
+Takes answers before found files reasons = ⊥
 
 -- nothing of what was found is left out
 abbrev pub none_left_out : List Found → List (Option FileFault)
@@ -83,62 +83,24 @@ none_left_out found = map (λ one. None) found
 
 -- the names of what isn't left out
 abbrev pub names_taken : List Found → List (Option FileFault) → List (List ℕ)
-names_taken (found ∷ more) (None ∷ whys) = name_of found ∷ names_taken more whys
-names_taken (found ∷ more) (Some fault ∷ whys) = names_taken more whys
-names_taken found whys = []
+names_taken (found ∷ more) (None ∷ reasons) = name_of found ∷ names_taken more reasons
+names_taken (found ∷ more) (Some fault ∷ reasons) = names_taken more reasons
+names_taken found reasons = []
 
--- The snapshot of what was taken was written: nothing was left out where that isn't allowed. The names in it are those
--- of what was found that isn't left out.
+-- All of these were gone through, and no others: `reasons` is of each of them, the files are those that were taken of
+-- them, which keep the rules, and nothing was left out where that isn't allowed.
+abbrev pub GoesThrough : Answering → List Found → Bool → List (Option FileFault) → List File → Type 0
+GoesThrough answers found skip reasons files = Takes answers [] found files reasons
+    × (skip ≡ false → reasons ≡ none_left_out found)
+    × IsSnapshotText (snapshot_text files) files
+
+-- All was gone through, and the snapshot of what was taken was written. The names in it are those of what was found
+-- that isn't left out.
 abbrev pub WritesFolder : Answering → List Found → Bool → List (Option FileFault) → Option (List ℕ)
     → Option (List ℕ) → Type 0
-WritesFolder answers found skip whys old new = (files : List File) × Takes answers [] found files whys
-    × (skip ≡ false → whys ≡ none_left_out found)
-    × (map (λ f. f.name) files ≡ names_taken found whys)
-    × IsSnapshotText (snapshot_text files) files
+WritesFolder answers found skip reasons old new = (files : List File) × GoesThrough answers found skip reasons files
+    × (map (λ f. f.name) files ≡ names_taken found reasons)
     × Appends old new (snapshot_text files)
-
--- a prefix was written of the snapshot of these files, or of these and of one more, which is found next
-abbrev pub WritesPrefix : Answering → List File → List Found → Option (List ℕ) → Option (List ℕ) → Type 0
-WritesPrefix answers files next old new = AppendsPrefix old new (snapshot_text files)
-    ⊎ ((one : Found) × (rest : List Found) × (f : File) × (next ≡ one ∷ rest) × IsTaken answers files one f
-    × AppendsPrefix old new (text_before_end (files ++ f ∷ [])))
-
--- The run was cut short at one of what was found, or at the last line: `whys` is of all before it, of which nothing was
--- left out where that isn't allowed, and a prefix was written of what was taken of them, and of that one.
-abbrev pub WritesFolderPrefix : Answering → List Found → Bool → List (Option FileFault) → Option (List ℕ)
-    → Option (List ℕ) → Type 0
-WritesFolderPrefix answers found skip whys old new = (first next : List Found) × (files : List File)
-    × (found ≡ first ++ next)
-    × Takes answers [] first files whys
-    × (skip ≡ false → whys ≡ none_left_out first)
-    × IsSnapshotText (snapshot_text files) files
-    × WritesPrefix answers files next old new
-
--- all before what can't be taken was taken, and stands there without a last line
-abbrev pub StopsBefore : Answering → List Found → List (Option FileFault) → Option (List ℕ) → Option (List ℕ)
-    → List ℕ → FileFault → Type 0
-StopsBefore answers found whys old new name fault = (first : List Found) × (refused : Found) × (rest : List Found)
-    × (files : List File)
-    × (found ≡ first ++ refused ∷ rest)
-    × Takes answers [] first files whys
-    × (whys ≡ none_left_out first)
-    × IsRefused answers files refused fault
-    × (name ≡ shown_name (name_of refused))
-    × Appends old new (text_before_end files)
-
--- the output failed, or there was no memory
-abbrev pub IsOutputFault : Fault → Type 0
-IsOutputFault f = (f ≡ Write Output) ⊎ (f ≡ Memory)
-
--- What a fault of the run says, and none else comes: a prefix of what was due was written, where the output failed,
--- there was no memory, or too many files were open; or the first of what can't be taken is named, where nothing may be
--- left out. `whys` is of all before the one at which it stopped.
-abbrev pub IsSnapshotRunFault : Answering → List Found → Bool → List (Option FileFault) → Option (List ℕ)
-    → Option (List ℕ) → Fault → Type 0
-IsSnapshotRunFault answers found skip whys old new f =
-    ((IsOutputFault f ⊎ (f ≡ Open places.Folder)) × WritesFolderPrefix answers found skip whys old new)
-    ⊎ ((g : FolderFault) × (f ≡ Folder g) × (skip ≡ false)
-    × StopsBefore answers found whys old new g.name.items g.fault)
 
 -- how often the output failed in a run that answered this fault
 abbrev pub output_failures : Fault → ℕ
@@ -172,11 +134,19 @@ AddsFound answers files before found None now writer =
 AddsFound answers files before found (Some fault) now writer =
     IsRefused answers files found fault × Took files before now writer
 
+-- What was found would be taken, but a write failed: a prefix stands of the text of these files and of that one. Or
+-- there was no memory for it, or too many files were open to read it: all of the text of these files stands, and
+-- nothing after it. Neither comes of what was known before not to be taken.
 abbrev pub CutsFound : Answering → List File → Option (List ℕ) → Found → Option (List ℕ) → Fault → Type 0
 CutsFound answers files before found now fault =
     ((fault ≡ Write Output) × (f : File) × IsTaken answers files found f
     × AppendsPrefix before now (text_before_end (files ++ f ∷ [])))
-    ⊎ (((fault ≡ Memory) ⊎ (fault ≡ Open places.Folder)) × Appends before now (text_before_end files))
+    ⊎ (((fault ≡ Memory) ⊎ (fault ≡ Open places.Folder)) × (found.fault ≡ None)
+    × Appends before now (text_before_end files))
+
+-- the output failed, or there was no memory
+abbrev pub IsOutputFault : Fault → Type 0
+IsOutputFault f = (f ≡ Write Output) ⊎ (f ≡ Memory)
 
 -- the text couldn't be written to its end: a prefix of it stands
 abbrev pub Cuts : List ℕ → Option (List ℕ) → Option (List ℕ) → Fault → Type 0
@@ -190,3 +160,41 @@ unwritten other = Memory
 abbrev pub Names : List ℕ → FileFault → Fault → Type 0
 Names name fault f = (f ≡ Memory)
     ⊎ ((g : FolderFault) × (f ≡ Folder g) × (g.name.items ≡ shown_name name) × (g.fault ≡ fault))
+
+-- What was found can't be taken after these files, and nothing is to be left out: the fault names it, unless there was
+-- no memory for its name. All of the text of these files stands, and nothing after it.
+abbrev pub RefusesFound : Answering → List File → Bool → Option (List ℕ) → Found → Option (List ℕ) → Fault → Type 0
+RefusesFound answers files skip before found now f = (skip ≡ false)
+    × ((fault : FileFault) × IsRefused answers files found fault × Names (name_of found) fault f)
+    × Appends before now (text_before_end files)
+
+-- ---- where a run stops
+
+-- it stopped at its first line, or before that: nothing was gone through, and a prefix of the line stands
+abbrev pub StopsFirst : List (Option FileFault) → Option (List ℕ) → Option (List ℕ) → Fault → Type 0
+StopsFirst reasons old new f = (reasons ≡ []) × Cuts (text_before_end []) old new f
+
+-- it stopped at one of what was found: all before that one was gone through, and no more
+abbrev pub StopsAt : Answering → List Found → Bool → List (Option FileFault) → Option (List ℕ) → Option (List ℕ)
+    → Fault → Type 0
+StopsAt answers found skip reasons old new f = (first : List Found) × (one : Found) × (rest : List Found)
+    × (files : List File)
+    × (found ≡ first ++ one ∷ rest)
+    × GoesThrough answers first skip reasons files
+    × (CutsFound answers files old one new f ⊎ RefusesFound answers files skip old one new f)
+
+-- it stopped at its last line: all that was found was gone through, and a prefix of the snapshot stands
+abbrev pub StopsLast : Answering → List Found → Bool → List (Option FileFault) → Option (List ℕ) → Option (List ℕ)
+    → Fault → Type 0
+StopsLast answers found skip reasons old new f = (files : List File) × GoesThrough answers found skip reasons files
+    × Cuts (snapshot_text files) old new f
+
+-- What a fault of the run says, and none else comes: where it stopped, and what stands. `reasons` is of none at the
+-- first line, of all that was found at the last, and else of exactly those before the one at which it stopped. That one
+-- would have been taken where its write failed; where it can't be taken and nothing may be left out, it is named, if
+-- there is memory for its name.
+abbrev pub IsSnapshotRunFault : Answering → List Found → Bool → List (Option FileFault) → Option (List ℕ)
+    → Option (List ℕ) → Fault → Type 0
+IsSnapshotRunFault answers found skip reasons old new f = StopsFirst reasons old new f
+    ⊎ (StopsAt answers found skip reasons old new f
+    ⊎ StopsLast answers found skip reasons old new f)

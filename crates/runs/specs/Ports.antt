@@ -111,8 +111,8 @@ pub data IsReported (place : Place) (failed : Bool) (ran reported : Result Unit 
   Lacks : reported ≡ Err Memory → reports_write place ran ≡ true → failed ≡ false → IsReported place failed ran reported
 
 -- P holds of what is reported, or of a failed write of this place that is reported as out of memory
-abbrev pub Tells : Place → (Result Unit Fault → Type 0) → Result Unit Fault → Type 0
-Tells place P reported = P reported
+abbrev pub Reports : Place → (Result Unit Fault → Type 0) → Result Unit Fault → Type 0
+Reports place P reported = P reported
     ⊎ ((ran : Result Unit Fault) × P ran × (reports_write place ran ≡ true) × (reported ≡ Err Memory))
 
 -- the writer at this place is reported only where it failed, and didn't fail at Ok

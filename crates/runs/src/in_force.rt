@@ -4,7 +4,7 @@ ghost use Rattle.std.specs.Prelude.{◌≡◌, ◌⊎◌, ◌-◌, ◌<◌, ◌^
 ghost use Rattle.devices.specs.Devices.{CanFail, CountsBy};
 ghost use Rattle.settings.specs.WrittenOut.{AreSettings};
 ghost use Rattle.runs.specs.InForce.{IsSettingsFault, SettingsSays, WritesSettings};
-ghost use Rattle.runs.specs.Ports.{Runs, Tells, reports_write, port};
+ghost use Rattle.runs.specs.Ports.{Runs, Reports, reports_write, port};
 ghost use Rattle.runs.specs.Failures.{report_failures};
 
 use crate::running::{Job, run_attributing};
@@ -73,7 +73,7 @@ pub fn settings_into<W: Write + Drop>(
     output: Sink<W>,
 ) -> (Result<(), Fault>, Sink<W>)
     requires writing { output.over ≡ false }
-    ensures device { Tells Place.Report (Runs Place.Report (SettingsSays document.now)
+    ensures device { Reports Place.Report (Runs Place.Report (SettingsSays document.now)
         output.bytes result.1.bytes) result.0 }
     ensures writes { result.1.over ≡ reports_write Place.Report result.0 }
 {

@@ -7,7 +7,7 @@ ghost use Rattle.devices.specs.Reference.{WhereKnown};
 ghost use Rattle.inspection.specs.Texts.{inspection_text};
 ghost use Rattle.captures.specs.Passes.{AttributesReads};
 ghost use Rattle.runs.specs.Inspecting.{is_unreported, Inspects, IsInspectFault, IsInspectFilesFault, InspectSays};
-ghost use Rattle.runs.specs.Ports.{Reads, Runs, Tells, reports_write, port, IsReportFault};
+ghost use Rattle.runs.specs.Ports.{Reads, Runs, Reports, reports_write, port, IsReportFault};
 ghost use Rattle.runs.specs.Failures.{capture_failures, report_failures};
 ghost use Rattle.runs.specs.Upgrading.{IsTextOfSomeFormat};
 
@@ -90,7 +90,8 @@ impl<R: Read + Drop> Job for Inspecting<R> {
 
     ghost ready = { λ job. CanFail job.input };
 
-    ghost says = { λ before after. Attributing capture_failures is_unreported InspectSays (port before.input after.input) };
+    ghost says = { λ before after. Attributing capture_failures is_unreported InspectSays
+        (port before.input after.input) };
 
     fn run<W: Write>(&mut self, output: &mut Output<W>) -> Result<(), Fault> {
         run_inspect(self.alloc, &mut self.input, output)
@@ -112,7 +113,7 @@ pub fn inspect_into<R: Read + Drop, W: Write + Drop>(
 ) -> (Result<(), Fault>, Input<R>, Sink<W>)
     requires reading { CanFail input }
     requires writing { output.over ≡ false }
-    ensures device { Tells Place.Report (Runs Place.Report (InspectSays (port input result.1))
+    ensures device { Reports Place.Report (Runs Place.Report (InspectSays (port input result.1))
         output.bytes result.2.bytes) result.0 }
     ensures reads { AttributesReads capture_failures is_unreported
         input.failures result.1.failures result.0 }

@@ -4,7 +4,7 @@ ghost use Rattle.std.specs.Prelude.{◌≡◌, ◌⊎◌, ◌-◌, ◌<◌, ◌^
 ghost use Rattle.captures.specs.Passes.{AttributesReads};
 ghost use Rattle.devices.specs.Devices.{CanFail};
 ghost use Rattle.runs.specs.Failures.{reader_failures};
-ghost use Rattle.runs.specs.Ports.{Runs, Tells, reports_write, is_cut, port};
+ghost use Rattle.runs.specs.Ports.{Runs, Reports, reports_write, is_cut, port};
 ghost use Rattle.runs.specs.Slimming.{PassSays};
 
 use crate::running::{Job, run_attributing};
@@ -71,9 +71,10 @@ pub(crate) fn rewrite_into<R: Read + Drop, W: Write + Drop>(
 ) -> (Result<(), Fault>, Input<R>, Sink<W>)
     requires reading { CanFail input }
     requires writing { output.over ≡ false }
-    ensures device { Tells Place.Output (Runs Place.Output (PassSays pass to (port input result.1))
+    ensures device { Reports Place.Output (Runs Place.Output (PassSays pass to (port input result.1))
         output.bytes result.2.bytes) result.0 }
-    ensures reads { AttributesReads reader_failures is_cut input.failures result.1.failures result.0 }
+    ensures reads { AttributesReads reader_failures is_cut
+        input.failures result.1.failures result.0 }
     ensures writes { result.2.over ≡ reports_write Place.Output result.0 }
 {
     let job = Rewriting {

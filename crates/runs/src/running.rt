@@ -2,7 +2,7 @@
 
 ghost use Rattle.std.specs.Prelude.{◌≡◌, [], true, false, IfOk, IfErr};
 ghost use Rattle.devices.specs.Devices.{fresh};
-ghost use Rattle.runs.specs.Ports.{AtDevice, IsReported, RunsJob, Finishes, Tells, reports_write, is_due};
+ghost use Rattle.runs.specs.Ports.{AtDevice, IsReported, RunsJob, Finishes, Reports, reports_write, is_due};
 
 use crate::buffer::{BUFFER_BYTES, Buffered, Device, Initial};
 use crate::sink::Sink;
@@ -168,7 +168,7 @@ pub fn run_attributing<J: Job + Drop, W: Write + Drop>(
     requires ready { J.ready job }
     requires place { reports_write place (Err (Fault.Write place)) ≡ true }
     requires healthy { sink.over ≡ false }
-    ensures stands { Tells place
+    ensures stands { Reports place
         (RunsJob place J.says job result.1 sink.bytes result.2.bytes) result.0 }
     ensures writes { result.2.over ≡ reports_write place result.0 }
 {

@@ -6,7 +6,7 @@ ghost use Rattle.slim.specs.Slims.{Slims};
 ghost use Rattle.devices.specs.Devices.{CanFail, CountsBy};
 ghost use Rattle.runs.specs.Failures.{reader_failures, writer_failures};
 ghost use Rattle.faults.specs.declared.fault.Place.TheVariants as Place;
-ghost use Rattle.runs.specs.Ports.{Runs, Tells, reports_write, is_cut, port};
+ghost use Rattle.runs.specs.Ports.{Runs, Reports, reports_write, is_cut, port};
 ghost use Rattle.runs.specs.Slimming.{IsSlimFault, SlimSays};
 
 use crate::rewriting::{Pass, rewrite_into};
@@ -65,10 +65,11 @@ pub fn slim_into<R: Read + Drop, W: Write + Drop>(
 ) -> (Result<(), Fault>, Input<R>, Sink<W>)
     requires reading { CanFail input }
     requires writing { output.over ≡ false }
-    ensures device { Tells Place.Output
+    ensures device { Reports Place.Output
         (Runs Place.Output (SlimSays queries to (port input result.1)) output.bytes result.2.bytes)
         result.0 }
-    ensures reads { AttributesReads reader_failures is_cut input.failures result.1.failures result.0 }
+    ensures reads { AttributesReads reader_failures is_cut
+        input.failures result.1.failures result.0 }
     ensures writes { result.2.over ≡ reports_write Place.Output result.0 }
 {
     rewrite_into(alloc, Pass::Slim(queries), input, output, to)

@@ -128,51 +128,50 @@ fn refused(alloc: Global, name: &str, fault: FileFault) -> Fault
 }
 
 /// Refuses what was found, where it can't be taken and nothing is to be left out.
-fn refuse(alloc: Global, found: &Found, why: Option<FileFault>, skip: bool) -> Result<(), Fault>
-    ensures ok { OnOk result (skip ≡ false → why ≡ None) }
+fn refuse(alloc: Global, found: &Found, reason: Option<FileFault>, skip: bool) -> Result<(), Fault>
+    ensures ok { OnOk result (skip ≡ false → reason ≡ None) }
     ensures fault { IfErr result (λ f. (skip ≡ false)
-        × ((fault : AFileFault) × (why ≡ Some fault) × Names (name_of found.now) fault f)) }
+        × ((fault : AFileFault) × (reason ≡ Some fault) × Names (name_of found.now) fault f)) }
 {
-    match why {
+    match reason {
         Some(fault) if !skip => Err(refused(alloc, found.name.as_str(), fault)),
         _ => Ok(()),
     }
 }
 
 /// Writes the snapshot of what was found in a folder, in the order given, which is to be that of the names' bytes. One
-/// file is in memory at a time. What can't be taken is a fault, or left out where that is asked for. `whys` is emptied,
-/// and gets for each of what was found why it was left out, or nothing where it was taken.
+/// file is in memory at a time. What can't be taken is a fault, or left out where that is asked for. `reasons` is
+/// emptied, and gets for each of what was found why it was left out, or nothing where it was taken.
 ///
 /// # Errors
 ///
 /// `Folder` with the first that can't be taken, where nothing is to be left out: the files before it stand, without a
 /// last line. `Write` of the output where it failed, `Memory`, and `Open` of the folder where it says nothing of a file
-/// since too many are open: a prefix stands. No other fault. `whys` has what became of all before the one at which the
-/// run stopped.
+/// since too many are open: a prefix stands. No other fault. `reasons` has what became of exactly those before the one
+/// at which the run stopped: of none at the first line, and of all at the last.
 pub fn run_snapshot<F: Folder, W: Write>(
     alloc: Global,
     folder: &F,
     found: &[Found],
     skip: bool,
-    whys: &mut Vec<Option<FileFault>>,
+    reasons: &mut Vec<Option<FileFault>>,
     output: &mut Output<W>,
 ) -> Result<(), Fault>
     requires { CanFail output.old }
     ensures ok { OnOk result (WritesFolder
-        (F.answers folder.now) found.now skip whys.new.items output.old.bytes output.new.bytes) }
+        (F.answers folder.now) found.now skip reasons.new.items output.old.bytes output.new.bytes) }
     ensures fault { IfErr result (IsSnapshotRunFault
-        (F.answers folder.now) found.now skip whys.new.items output.old.bytes output.new.bytes) }
+        (F.answers folder.now) found.now skip reasons.new.items output.old.bytes output.new.bytes) }
     // The output is reported only where it failed in this call.
     ensures writes { CountsBy output_failures output.old.failures output.new.failures result }
 {
-    whys.clear();
+    reasons.clear();
+    reasons.reserve(found.len())?;
     let mut writer = begin(alloc, output)?;
     for one in found {
-        let why = add_found(folder, &mut writer, output, one)?;
-        refuse(alloc, one, why, skip)?;
-        let Ok(()) = whys.push(why) else {
-            return Err(Fault::Memory);
-        };
+        let reason = add_found(folder, &mut writer, output, one)?;
+        refuse(alloc, one, reason, skip)?;
+        reasons.push_reserved(reason);
     }
     finish(writer, output)
 }

@@ -6,7 +6,7 @@ ghost use Rattle.captures.specs.Upgrades.{Upgrades};
 ghost use Rattle.devices.specs.Devices.{CanFail, CountsBy};
 ghost use Rattle.runs.specs.Failures.{reader_failures, writer_failures};
 ghost use Rattle.faults.specs.declared.fault.Place.TheVariants as Place;
-ghost use Rattle.runs.specs.Ports.{Runs, Tells, reports_write, is_cut, port};
+ghost use Rattle.runs.specs.Ports.{Runs, Reports, reports_write, is_cut, port};
 ghost use Rattle.runs.specs.Upgrading.{IsUpgradeFault, UpgradeSays};
 
 use crate::rewriting::{Pass, rewrite_into};
@@ -62,9 +62,10 @@ pub fn upgrade_into<R: Read + Drop, W: Write + Drop>(
 ) -> (Result<(), Fault>, Input<R>, Sink<W>)
     requires reading { CanFail input }
     requires writing { output.over ≡ false }
-    ensures device { Tells Place.Output (Runs Place.Output (UpgradeSays to (port input result.1))
+    ensures device { Reports Place.Output (Runs Place.Output (UpgradeSays to (port input result.1))
         output.bytes result.2.bytes) result.0 }
-    ensures reads { AttributesReads reader_failures is_cut input.failures result.1.failures result.0 }
+    ensures reads { AttributesReads reader_failures is_cut
+        input.failures result.1.failures result.0 }
     ensures writes { result.2.over ≡ reports_write Place.Output result.0 }
 {
     rewrite_into(alloc, Pass::Upgrade, input, output, to)

@@ -1,6 +1,6 @@
 use Rattle.std.proofs.Common.{refl}
 use Rattle.program.proofs.AttributionCounts.{snapshot_reader_once, capture_reader_once, unreported_at_files}
-use Rattle.program.proofs.AttributionLemmas.{reader_settled, replies_told, report_healthy, still_told}
+use Rattle.program.proofs.AttributionLemmas.{reader_settled, replies_reported, report_healthy, still_reported}
 use Rattle.program.proofs.Reporting.{exactly}
 use Rattle.program.proofs.replaying.run_over_buffers.Goals as goal
 
@@ -30,6 +30,6 @@ returns-clause-reads g c =
 
 pub returns-clause-writes : goal.returns-clause-writes
 returns-clause-writes g c = (
-  λ failed. still_told _ _ _ _ _ _ c.is_ok-due.ensures.value c.finish_output-ran-2.ensures.stands (replies_told _ _ _ _ _ _ _ c.is_due-due.ensures c.finish_output-ran.ensures.stands c.finish_output-ran.ensures.failed failed),
+  λ failed. still_reported _ _ _ _ _ _ c.is_ok-due.ensures.value c.finish_output-ran-2.ensures.stands (replies_reported _ _ _ _ _ _ _ c.is_due-due.ensures c.finish_output-ran.ensures.stands c.finish_output-ran.ensures.failed failed),
   report_healthy _ _ _ _ _ _ _ c.is_ok-due.ensures.value c.finish_output-ran-2.ensures.stands c.finish_output-ran-2.ensures.failed,
 )
