@@ -62,9 +62,9 @@ RATE_MAX_WORDS = (
 )
 BACK_WORDS = (
     "floor.back_cuts is to be a list of integers: steps, rising from at least 1, the last 2: how many of the back's "
-    "are done where each stage ends; floor.back_workers is to be a list of integers: threads, 1 to 16 for each stage: "
-    "how many work at it; floor.back_capacities is to be a list of integers: requests, 1 to 4096 for each stage: how "
-    "many its queue holds; and the three of one length"
+    "are done where each stage ends; floor.back_workers is to be a list of integers: workers, 1 to 16 for each stage: "
+    "how many requests, or chunks of them, it works on at once; floor.back_capacities is to be a list of integers: "
+    "requests, 1 to 4096 for each stage: how many its queue holds; and the three of one length"
 )
 POOL_WORDS = "pool is to be a list of tables: at most 16 of them, each below a line [[pool]]"
 NAME_WORDS = (

@@ -88,7 +88,7 @@ MEDIA_TYPES = {
     b"gif": b"image/gif",
 }
 
-THREADS = "threads, 1 to 16 for each stage: how many work at it"
+WORKERS = "workers, 1 to 16 for each stage: how many requests, or chunks of them, it works on at once"
 QUEUES = "requests, 1 to 4096 for each stage: how many its queue holds"
 
 # Each key with what is said of it, its default, and its least and greatest value where it is a single integer.
@@ -97,11 +97,11 @@ SETTINGS = {
         ("front_cuts",
          "steps, rising from at least 1, the last 3: how many of the front's are done where each stage ends",
          [1, 2, 3]),
-        ("front_workers", THREADS, [2, 2, 2]),
+        ("front_workers", WORKERS, [2, 2, 2]),
         ("front_capacities", QUEUES, [64, 64, 64]),
         ("back_cuts",
          "steps, rising from at least 1, the last 2: how many of the back's are done where each stage ends", [1, 2]),
-        ("back_workers", THREADS, [2, 2]),
+        ("back_workers", WORKERS, [2, 2]),
         ("back_capacities", QUEUES, [64, 64]),
         ("batch", "pieces, 1 to 65536: how many are read at a time", 1024, 1, 65_536),
         ("cache", "bytes, 0 to 1073741824: how much the cache of pages holds", 67_108_864, 0, 1_073_741_824),

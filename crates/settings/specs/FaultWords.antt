@@ -68,18 +68,18 @@ misplaced_words (Some m) = misplaced_text m
 
 -- ---- what is to stand at a key
 
-abbrev pub value_words_as : Key → KeyKind → List ℕ
-value_words_as key Table = path_of key ++ codes " is to be a table"
-value_words_as key Tables = path_of key ++ codes " is to be a list of tables: " ++ (row_of key).comment
-value_words_as key OwnText = path_of key ++ codes " is to be a text: " ++ (row_of key).comment
-value_words_as key (Numbers default) =
-    path_of key ++ codes " is to be a list of integers: " ++ (row_of key).comment
-value_words_as key other =
-    path_of key ++ codes " is to be an integer: " ++ (row_of key).comment ++ (row_of key).scale
+-- what kind of value
+abbrev pub kind_words : KeyKind → List ℕ
+kind_words Table = codes "a table"
+kind_words Tables = codes "a list of tables: "
+kind_words OwnText = codes "a text: "
+kind_words (Numbers default) = codes "a list of integers: "
+kind_words other = codes "an integer: "
 
--- what is to stand at one key
+-- what is to stand at one key, with what is said of it
 unfoldable pub value_words : Key → List ℕ
-value_words key = value_words_as key (row_of key).kind
+value_words key =
+    path_of key ++ codes " is to be " ++ kind_words (row_of key).kind ++ (row_of key).comment ++ (row_of key).scale
 
 -- the three lists of a floor, which don't fit together
 unfoldable pub lists_words : Key → Key → Key → List ℕ

@@ -77,13 +77,13 @@ row_of keys.Floor = row keys.Floor (codes "floor") Table []
 row_of keys.FrontCuts = row keys.Floor (codes "front_cuts") (Numbers (1 ∷ 2 ∷ 3 ∷ []))
     (codes "steps, rising from at least 1, the last 3: how many of the front's are done where each stage ends")
 row_of keys.FrontWorkers = row keys.Floor (codes "front_workers") (Numbers (2 ∷ 2 ∷ 2 ∷ []))
-    (codes "threads, 1 to 16 for each stage: how many work at it")
+    (codes "workers, 1 to 16 for each stage: how many requests, or chunks of them, it works on at once")
 row_of keys.FrontCapacities = row keys.Floor (codes "front_capacities") (Numbers (64 ∷ 64 ∷ 64 ∷ []))
     (codes "requests, 1 to 4096 for each stage: how many its queue holds")
 row_of keys.BackCuts = row keys.Floor (codes "back_cuts") (Numbers (1 ∷ 2 ∷ []))
     (codes "steps, rising from at least 1, the last 2: how many of the back's are done where each stage ends")
 row_of keys.BackWorkers = row keys.Floor (codes "back_workers") (Numbers (2 ∷ 2 ∷ []))
-    (codes "threads, 1 to 16 for each stage: how many work at it")
+    (codes "workers, 1 to 16 for each stage: how many requests, or chunks of them, it works on at once")
 row_of keys.BackCapacities = row keys.Floor (codes "back_capacities") (Numbers (64 ∷ 64 ∷ []))
     (codes "requests, 1 to 4096 for each stage: how many its queue holds")
 row_of keys.Batch = row keys.Floor (codes "batch") (Number 1024 1 65536)
@@ -257,8 +257,7 @@ IsKind kinds.Tables kind = kind ≡ Tables
 IsKind kinds.Text kind = kind ≡ Text
 IsKind (kinds.Each least greatest) kind = kind ≡ Each least greatest
 
--- a row of the code says the same
+-- a row of the code says the same, but for the table
 abbrev pub IsRow : Row → KeyRow → Type 0
 IsRow r row =
-    (r.table ≡ row.table) × (r.name.now ≡ row.name) × IsKind r.kind row.kind × (r.comment.now ≡ row.comment)
-    × (r.scale.now ≡ row.scale)
+    (r.name.now ≡ row.name) × IsKind r.kind row.kind × (r.comment.now ≡ row.comment) × (r.scale.now ≡ row.scale)

@@ -8,6 +8,7 @@ use Rattle.toml.specs.Parse.{parse_document}
 use Rattle.stage_graph.specs.Layouts.{Layout, layout_of}
 use Rattle.stage_graph.specs.PlanFaults.{plan_fault}
 use Rattle.stage_graph.specs.After.{last_cut}
+use Rattle.cost_model.specs.Reference.{Route}
 use Rattle.reference.specs.Reference.{Choice}
 use Rattle.settings.specs.declared.keys.Key.{Key}
 use Rattle.settings.specs.declared.keys.Key.TheVariants as keys
@@ -45,18 +46,30 @@ in_order table p =
 unfoldable pub policy_of : Members → PolicyTable → Result PolicyNumbers ConfigFault
 policy_of document table = in_order table (policy_with (λ key. number_in document (keys.InPolicy table key)))
 
--- what is said fits together: the floors, then the policy of each tier in turn, then the pools, and then the routes
-abbrev pub chosen : Members → Result Choice ConfigFault
-chosen document = do
-  front ← plan_of document keys.Front 3
-  back ← plan_of document keys.Back 2
+-- the policies of the tiers 0 to 3, each in turn
+unfoldable pub policies_of : Members → Result (List PolicyNumbers) ConfigFault
+policies_of document = do
   policy ← policy_of document tables.Policy
   tier1 ← policy_of document tables.Tier1
   tier2 ← policy_of document tables.Tier2
   tier3 ← policy_of document tables.Tier3
+  Ok (policy ∷ tier1 ∷ tier2 ∷ tier3 ∷ [])
+
+-- the pools and then the routes, where each pool is named by a route
+unfoldable pub services_of : Members → Result (List ℕ × List Route) ConfigFault
+services_of document = do
   pools ← pools_of document
   routes ← routes_of document
   used ← each_used 1 pools routes
+  Ok (pools, routes)
+
+-- what is said fits together: the floors, then the policies, then the pools, and then the routes
+abbrev pub chosen : Members → Result Choice ConfigFault
+chosen document = do
+  front ← plan_of document keys.Front 3
+  back ← plan_of document keys.Back 2
+  policies ← policies_of document
+  services ← services_of document
   Ok (record {
     floors = record {
       front = front;
@@ -65,8 +78,8 @@ chosen document = do
       cache = number_in document keys.Cache;
     };
     served = record {
-      tariff = record { costs = costs_with (number_in document); routes = routes; pools = pools };
-      policies = policy ∷ tier1 ∷ tier2 ∷ tier3 ∷ [];
+      tariff = record { costs = costs_with (number_in document); routes = services.1; pools = services.0 };
+      policies = policies;
       retry_after = number_in document keys.RetryAfter;
       speed = 100;
     };

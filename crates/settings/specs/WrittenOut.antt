@@ -129,10 +129,13 @@ list_text_of list delay other = []
 unfoldable pub tables_text : Members → Key → List ℕ
 tables_text document list = list_text_of list (number_in document keys.Delay) (get_member (name_of list) document)
 
+-- all tables and keys of a document, and then its pools and its routes
+abbrev pub whole_text : Members → List ℕ
+whole_text document = document_text document ++ tables_text document keys.Pool ++ tables_text document keys.Route
+
 -- the settings of a document written out, where it has no fault, or its first one
 abbrev pub text_of : Members → Result (List ℕ) ConfigFault
-text_of document = settings_of document
-    >>= (λ choice. Ok (document_text document ++ tables_text document keys.Pool ++ tables_text document keys.Route))
+text_of document = settings_of document >>= (λ choice. Ok (whole_text document))
 
 abbrev pub text_or_no_text : Option Members → Result (List ℕ) ConfigFault
 text_or_no_text None = Err no_text

@@ -4,11 +4,12 @@ ghost use Rattle.std.specs.Prelude.{◌≡◌, IfOk, false, None, Ok, Some, Matc
 ghost use Rattle.toml.specs.Data.{no_members};
 ghost use Rattle.toml.specs.View.{table_view};
 ghost use Rattle.stage_graph.specs.After.{last_cut};
+ghost use Rattle.cost_model.specs.Services.{AreServed};
 ghost use Rattle.settings.specs.ConfigFaults.{IsAnswer, is_memory, no_text};
 ghost use Rattle.settings.specs.Documents.{number_in};
 ghost use Rattle.settings.specs.Keys.{costs_with};
-ghost use Rattle.settings.specs.SettingsTable.{chosen, default_choice, document_of, plan_of, plan_with, policy_of};
-ghost use Rattle.settings.specs.SettingsTable.{settings_of, settings_read};
+ghost use Rattle.settings.specs.SettingsTable.{chosen, default_choice, document_of, plan_of, plan_with, policies_of};
+ghost use Rattle.settings.specs.SettingsTable.{policy_of, services_of, settings_of, settings_read};
 
 use crate::document::{misplaced_in, number_in, numbers_in, values_fit};
 use crate::keys::Kind;
@@ -16,7 +17,7 @@ use crate::pools::{each_used, pools_of};
 use crate::routes::routes_of;
 use crate::{ConfigFault, Key, PolicyKey, PolicyTable};
 use admission::{Policy, PolicyNumbers};
-use cost_model::Costs;
+use cost_model::{Costs, Pools, Routes};
 use reference::{BACK_STEPS, FRONT_STEPS, Settings};
 use stage_graph::{Plan, PlanFault};
 use std::alloc::{AllocError, Global};
@@ -76,7 +77,6 @@ pub(crate) fn settings_of(alloc: Global, document: &Table) -> Result<Settings, C
 /// # Errors
 ///
 /// Memory ran out.
-#[tactic(auto, using(crate::proofs::Rows::defaults))]
 pub fn default_settings(alloc: Global) -> Result<Settings, AllocError>
     ensures no_keys { IfOk result (λ settings. settings_of no_members ≡ Ok settings) }
     ensures value { IfOk result (λ settings. settings ≡ default_choice) }
@@ -94,26 +94,42 @@ fn chosen(alloc: Global, document: &Table) -> Result<Settings, ConfigFault>
 {
     let front = plan_of(alloc, document, Key::Front, FRONT_STEPS)?;
     let back = plan_of(alloc, document, Key::Back, BACK_STEPS)?;
+    let policies = policies_of(document)?;
+    let (pools, routes) = services_of(alloc, document)?;
+    let settings = Settings::in_range(
+        front,
+        back,
+        number_in(document, Key::Batch) as usize,
+        number_in(document, Key::Cache) as usize,
+        costs_of(document),
+        policies,
+        number_in(document, Key::RetryAfter),
+    );
+    Ok(settings.with_routes(routes, pools))
+}
+
+/// The policies of all tiers.
+#[tactic(auto, unfolding(crate::specs::SettingsTable::policies_of))]
+fn policies_of(document: &Table) -> Result<[Policy; 4], ConfigFault>
+    ensures { result ≡ policies_of (table_view document.now) }
+{
     let policy = policy_of(document, PolicyTable::Policy)?;
     let tier1 = policy_of(document, PolicyTable::Tier1)?;
     let tier2 = policy_of(document, PolicyTable::Tier2)?;
     let tier3 = policy_of(document, PolicyTable::Tier3)?;
-    let batch = number_in(document, Key::Batch);
-    let cache = number_in(document, Key::Cache);
-    let retry_after = number_in(document, Key::RetryAfter);
+    Ok([policy, tier1, tier2, tier3])
+}
+
+/// The pools and the routes, where each pool is named by a route.
+#[tactic(auto, unfolding(crate::specs::SettingsTable::services_of))]
+fn services_of(alloc: Global, document: &Table) -> Result<(Pools, Routes), ConfigFault>
+    ensures services { IsAnswer (services_of (table_view document.now)) result }
+    ensures served { IfOk result (λ services. AreServed services.1 services.0) }
+{
     let pools = pools_of(alloc, document)?;
     let routes = routes_of(alloc, document)?;
     each_used(pools.as_slice(), routes.as_slice())?;
-    let settings = Settings::in_range(
-        front,
-        back,
-        batch as usize,
-        cache as usize,
-        costs_of(document),
-        [policy, tier1, tier2, tier3],
-        retry_after,
-    );
-    Ok(settings.with_routes(routes, pools))
+    Ok((pools, routes))
 }
 
 /// The service times, servers and delay of a document.
@@ -169,19 +185,18 @@ fn policy_of(document: &Table, table: PolicyTable) -> Result<Policy, ConfigFault
     use PolicyKey::{
         Depth, Down, Every, Low, Rate, RateMax, RateMin, Smoothing, Target, Up, Window,
     };
-    let at = |key| Key::InPolicy(table, key);
     let numbers = PolicyNumbers {
-        window: number_in(document, at(Window)),
-        every: number_in(document, at(Every)),
-        smoothing: number_in(document, at(Smoothing)),
-        rate: number_in(document, at(Rate)),
-        rate_min: number_in(document, at(RateMin)),
-        rate_max: number_in(document, at(RateMax)),
-        up: number_in(document, at(Up)),
-        down: number_in(document, at(Down)),
-        target: number_in(document, at(Target)),
-        low: number_in(document, at(Low)),
-        depth: number_in(document, at(Depth)),
+        window: number_in(document, Key::InPolicy(table, Window)),
+        every: number_in(document, Key::InPolicy(table, Every)),
+        smoothing: number_in(document, Key::InPolicy(table, Smoothing)),
+        rate: number_in(document, Key::InPolicy(table, Rate)),
+        rate_min: number_in(document, Key::InPolicy(table, RateMin)),
+        rate_max: number_in(document, Key::InPolicy(table, RateMax)),
+        up: number_in(document, Key::InPolicy(table, Up)),
+        down: number_in(document, Key::InPolicy(table, Down)),
+        target: number_in(document, Key::InPolicy(table, Target)),
+        low: number_in(document, Key::InPolicy(table, Low)),
+        depth: number_in(document, Key::InPolicy(table, Depth)),
     };
     if numbers.rate < numbers.rate_min || numbers.rate > numbers.rate_max {
         return Err(ConfigFault::range(Key::InPolicy(table, PolicyKey::Rate)));

@@ -4,12 +4,12 @@ ghost use Rattle.std.specs.Prelude.{◌≡◌, ◌++◌, None, OnOk, IfOk};
 ghost use Rattle.std.specs.String.{string_bytes};
 ghost use Rattle.toml.specs.View.{table_view};
 ghost use Rattle.settings.specs.declared.keys.Key.TheVariants.{Floor};
-ghost use Rattle.settings.specs.Keys.{all_keys};
+ghost use Rattle.settings.specs.Keys.{all_keys, row_of};
 ghost use Rattle.settings.specs.SettingsTable.{document_of};
 ghost use Rattle.settings.specs.Documents.{misplaced_in};
 ghost use Rattle.settings.specs.FaultWords.{document_words, edits, fault_words, fits_in, is_nearer};
-ghost use Rattle.settings.specs.FaultWords.{key_words, lists_words, misplaced_text, misplaced_words, nearest_among};
-ghost use Rattle.settings.specs.FaultWords.{nearest_key, place_of, text_words, value_words};
+ghost use Rattle.settings.specs.FaultWords.{key_words, kind_words, lists_words, misplaced_text, misplaced_words};
+ghost use Rattle.settings.specs.FaultWords.{nearest_among, nearest_key, place_of, text_words, value_words};
 
 use crate::config::{MAX_SETTINGS_BYTES, document_of};
 use crate::document::misplaced_in;
@@ -123,29 +123,29 @@ fn misplaced_words(alloc: Global, document: &Table) -> Result<String, AllocError
     }
 }
 
+/// What kind of value is to stand at a key.
+fn kind_words(key: Key) -> &'static str
+    ensures { result.now ≡ kind_words (row_of key).kind }
+{
+    match key.row().kind {
+        Kind::Table => "a table",
+        Kind::Tables => "a list of tables: ",
+        Kind::Text => "a text: ",
+        Kind::Numbers(_) => "a list of integers: ",
+        _ => "an integer: ",
+    }
+}
+
 /// What is to stand at one key.
 #[tactic(auto, unfolding(crate::specs::FaultWords::value_words))]
 fn value_words(alloc: Global, key: Key) -> Result<String, AllocError>
     ensures { IfOk result (λ text. string_bytes text ≡ value_words key) }
 {
-    let Row {
-        kind,
-        comment,
-        scale,
-        ..
-    } = key.row();
-    match kind {
-        Kind::Table => format!(in alloc; "{key} is to be a table"),
-        Kind::Tables => format!(in alloc; "{key} is to be a list of tables: {comment}"),
-        Kind::Text => format!(in alloc; "{key} is to be a text: {comment}"),
-        Kind::Numbers(_) => format!(in alloc; "{key} is to be a list of integers: {comment}"),
-        Kind::Number(_, _, _) => format!(in alloc; "{key} is to be an integer: {comment}{scale}"),
-        _ => format!(in alloc; "{key} is to be an integer: {comment}{scale}"),
-    }
+    let Row { comment, scale, .. } = *key.row();
+    format!(in alloc; "{key} is to be {}{comment}{scale}", kind_words(key))
 }
 
 /// What is said of the three lists of a floor, which don't fit together.
-#[tactic(auto, unfolding(crate::specs::FaultWords::lists_words))]
 fn lists_words(
     alloc: Global,
     cuts: Key,
@@ -154,15 +154,10 @@ fn lists_words(
 ) -> Result<String, AllocError>
     ensures { IfOk result (λ text. string_bytes text ≡ lists_words cuts workers capacities) }
 {
+    let cuts = value_words(alloc, cuts)?;
     let workers = value_words(alloc, workers)?;
     let capacities = value_words(alloc, capacities)?;
-    let mut text = value_words(alloc, cuts)?;
-    text.push_str("; ")?;
-    text.push_str(&workers)?;
-    text.push_str("; ")?;
-    text.push_str(&capacities)?;
-    text.push_str("; and the three of one length")?;
-    Ok(text)
+    format!(in alloc; "{cuts}; {workers}; {capacities}; and the three of one length")
 }
 
 /// What is said of a key at which something else stands.

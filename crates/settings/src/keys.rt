@@ -4,7 +4,7 @@
 ghost use Rattle.std.specs.Prelude.{◌≡◌, ◌≤◌, IfOk, length};
 ghost use Rattle.settings.specs.Keys.{HasDefault, IsRow, IsWithin, all_keys, default_of, defaults_of, is_table};
 ghost use Rattle.settings.specs.Keys.{keys_in, name_of, policy_row, row_of, table_of};
-ghost use Rattle.settings.specs.declared.keys.Key.TheVariants.{Policy};
+ghost use Rattle.settings.specs.declared.keys.Key.{Key};
 
 use std::alloc::{AllocError, Global};
 use std::fmt;
@@ -106,9 +106,7 @@ pub(crate) enum Kind {
 /// What the table says of a key.
 #[derive(Clone, Copy)]
 pub(crate) struct Row {
-    /// The table that holds it. A table is its own.
-    pub(crate) table: Key,
-    /// Its name there, as `front_cuts`.
+    /// Its name in the table that holds it, as `front_cuts`.
     pub(crate) name: &'static str,
     /// What may stand at it.
     pub(crate) kind: Kind,
@@ -121,331 +119,375 @@ pub(crate) struct Row {
 /// What a number of a rate is, in requests.
 const PER_SECOND: &str = "; 1000 is one request a second";
 
+// The rows of a policy's keys, in whichever table.
+
+static WINDOW: Row = Row {
+    name: "window",
+    kind: Kind::Number(100, 1, 4096),
+    comment: "response times, 1 to 4096: of how many of the last ones the 90th percentile is taken",
+    scale: "",
+};
+
+static EVERY: Row = Row {
+    name: "every",
+    kind: Kind::Number(100, 1, 4096),
+    comment: "admitted requests, 1 to 4096: after how many the controller looks again",
+    scale: "",
+};
+
+static SMOOTHING: Row = Row {
+    name: "smoothing",
+    kind: Kind::Number(700, 0, 999),
+    comment: "thousandths, 0 to 999: how much of the former value stays (700 is a weight of 0.7 for the past)",
+    scale: "",
+};
+
+static RATE: Row = Row {
+    name: "rate",
+    kind: Kind::Number(1_000_000, 1, 1_000_000_000),
+    comment: "thousandths of a token a second, rate_min to rate_max: how fast tokens come back at first",
+    scale: "; 1000 is one request a second, and rate_min and rate_max count where they are left out too",
+};
+
+static RATE_MIN: Row = Row {
+    name: "rate_min",
+    kind: Kind::Number(50_000, 1, 1_000_000_000),
+    comment: "thousandths of a token a second, 1 to rate_max: the rate never falls below it",
+    scale: PER_SECOND,
+};
+
+static RATE_MAX: Row = Row {
+    name: "rate_max",
+    kind: Kind::Number(5_000_000, 1, 1_000_000_000),
+    comment: "thousandths of a token a second, rate_min to 1000000000: the rate never rises above it",
+    scale: PER_SECOND,
+};
+
+static UP: Row = Row {
+    name: "up",
+    kind: Kind::Number(2000, 0, 1_000_000_000),
+    comment: "thousandths of a token a second, 0 to 1000000000: by how much the rate rises at once",
+    scale: PER_SECOND,
+};
+
+static DOWN: Row = Row {
+    name: "down",
+    kind: Kind::Number(120, 101, 10_000),
+    comment: "hundredths, 101 to 10000: what the rate is divided by where it falls (120 divides it by 1.2)",
+    scale: "",
+};
+
+static TARGET: Row = Row {
+    name: "target",
+    kind: Kind::Number(100_000, 1, 1_000_000_000_000),
+    comment: "microseconds, 1 to 1000000000000: above this response time the rate falls",
+    scale: "",
+};
+
+static LOW: Row = Row {
+    name: "low",
+    kind: Kind::Number(90, 0, 100),
+    comment: "percent of the target, 0 to 100: below this part of it the rate rises",
+    scale: "",
+};
+
+static DEPTH: Row = Row {
+    name: "depth",
+    kind: Kind::Number(100, 1, 1_000_000),
+    comment: "tokens, 1 to 1000000: how many the bucket holds; it starts full",
+    scale: "",
+};
+
 impl PolicyKey {
-    /// Its row in a table.
-    fn row(self, table: PolicyTable) -> Row
-        ensures row { IsRow result (policy_row (Policy table) self) }
-        ensures name { length result.name.now ≤ 16 }
-        ensures default { HasDefault (policy_row (Policy table) self).kind }
+    /// Its row, in whichever table.
+    fn row(self) -> &'static Row
+        ensures row { (table : Key) → IsRow result.now (policy_row table self) }
+        ensures name { length result.now.name.now ≤ 16 }
+        ensures default { (table : Key) → HasDefault (policy_row table self).kind }
     {
         match self {
-            PolicyKey::Window => Row {
-                table: Key::Policy(table),
-                name: "window",
-                kind: Kind::Number(100, 1, 4096),
-                comment: "response times, 1 to 4096: of how many of the last ones the 90th percentile is taken",
-                scale: "",
-            },
-            PolicyKey::Every => Row {
-                table: Key::Policy(table),
-                name: "every",
-                kind: Kind::Number(100, 1, 4096),
-                comment: "admitted requests, 1 to 4096: after how many the controller looks again",
-                scale: "",
-            },
-            PolicyKey::Smoothing => Row {
-                table: Key::Policy(table),
-                name: "smoothing",
-                kind: Kind::Number(700, 0, 999),
-                comment: "thousandths, 0 to 999: how much of the former value stays (700 is a weight of 0.7 for \
-                    the past)",
-                scale: "",
-            },
-            PolicyKey::Rate => Row {
-                table: Key::Policy(table),
-                name: "rate",
-                kind: Kind::Number(1_000_000, 1, 1_000_000_000),
-                comment: "thousandths of a token a second, rate_min to rate_max: how fast tokens come back at first",
-                scale: "; 1000 is one request a second, and rate_min and rate_max count where they are left out too",
-            },
-            PolicyKey::RateMin => Row {
-                table: Key::Policy(table),
-                name: "rate_min",
-                kind: Kind::Number(50_000, 1, 1_000_000_000),
-                comment: "thousandths of a token a second, 1 to rate_max: the rate never falls below it",
-                scale: PER_SECOND,
-            },
-            PolicyKey::RateMax => Row {
-                table: Key::Policy(table),
-                name: "rate_max",
-                kind: Kind::Number(5_000_000, 1, 1_000_000_000),
-                comment: "thousandths of a token a second, rate_min to 1000000000: the rate never rises above it",
-                scale: PER_SECOND,
-            },
-            PolicyKey::Up => Row {
-                table: Key::Policy(table),
-                name: "up",
-                kind: Kind::Number(2000, 0, 1_000_000_000),
-                comment: "thousandths of a token a second, 0 to 1000000000: by how much the rate rises at once",
-                scale: PER_SECOND,
-            },
-            PolicyKey::Down => Row {
-                table: Key::Policy(table),
-                name: "down",
-                kind: Kind::Number(120, 101, 10_000),
-                comment: "hundredths, 101 to 10000: what the rate is divided by where it falls (120 divides it by 1.2)",
-                scale: "",
-            },
-            PolicyKey::Target => Row {
-                table: Key::Policy(table),
-                name: "target",
-                kind: Kind::Number(100_000, 1, 1_000_000_000_000),
-                comment: "microseconds, 1 to 1000000000000: above this response time the rate falls",
-                scale: "",
-            },
-            PolicyKey::Low => Row {
-                table: Key::Policy(table),
-                name: "low",
-                kind: Kind::Number(90, 0, 100),
-                comment: "percent of the target, 0 to 100: below this part of it the rate rises",
-                scale: "",
-            },
-            PolicyKey::Depth => Row {
-                table: Key::Policy(table),
-                name: "depth",
-                kind: Kind::Number(100, 1, 1_000_000),
-                comment: "tokens, 1 to 1000000: how many the bucket holds; it starts full",
-                scale: "",
-            },
+            PolicyKey::Window => &WINDOW,
+            PolicyKey::Every => &EVERY,
+            PolicyKey::Smoothing => &SMOOTHING,
+            PolicyKey::Rate => &RATE,
+            PolicyKey::RateMin => &RATE_MIN,
+            PolicyKey::RateMax => &RATE_MAX,
+            PolicyKey::Up => &UP,
+            PolicyKey::Down => &DOWN,
+            PolicyKey::Target => &TARGET,
+            PolicyKey::Low => &LOW,
+            PolicyKey::Depth => &DEPTH,
         }
     }
 }
 
+// The rows of all other keys.
+
+static FLOOR: Row = Row {
+    name: "floor",
+    kind: Kind::Table,
+    comment: "",
+    scale: "",
+};
+
+static FRONT_CUTS: Row = Row {
+    name: "front_cuts",
+    kind: Kind::Numbers(&[1, 2, 3]),
+    comment: "steps, rising from at least 1, the last 3: how many of the front's are done where each stage ends",
+    scale: "",
+};
+
+static FRONT_WORKERS: Row = Row {
+    name: "front_workers",
+    kind: Kind::Numbers(&[2, 2, 2]),
+    comment: "workers, 1 to 16 for each stage: how many requests, or chunks of them, it works on at once",
+    scale: "",
+};
+
+static FRONT_CAPACITIES: Row = Row {
+    name: "front_capacities",
+    kind: Kind::Numbers(&[64, 64, 64]),
+    comment: "requests, 1 to 4096 for each stage: how many its queue holds",
+    scale: "",
+};
+
+static BACK_CUTS: Row = Row {
+    name: "back_cuts",
+    kind: Kind::Numbers(&[1, 2]),
+    comment: "steps, rising from at least 1, the last 2: how many of the back's are done where each stage ends",
+    scale: "",
+};
+
+static BACK_WORKERS: Row = Row {
+    name: "back_workers",
+    kind: Kind::Numbers(&[2, 2]),
+    comment: "workers, 1 to 16 for each stage: how many requests, or chunks of them, it works on at once",
+    scale: "",
+};
+
+static BACK_CAPACITIES: Row = Row {
+    name: "back_capacities",
+    kind: Kind::Numbers(&[64, 64]),
+    comment: "requests, 1 to 4096 for each stage: how many its queue holds",
+    scale: "",
+};
+
+static BATCH: Row = Row {
+    name: "batch",
+    kind: Kind::Number(1024, 1, 65_536),
+    comment: "pieces, 1 to 65536: how many are read at a time",
+    scale: "",
+};
+
+static CACHE: Row = Row {
+    name: "cache",
+    kind: Kind::Number(67_108_864, 0, 1_073_741_824),
+    comment: "bytes, 0 to 1073741824: how much the cache of pages holds",
+    scale: "",
+};
+
+static FRONT: Row = Row {
+    name: "front",
+    kind: Kind::Lists(Key::FrontCuts, Key::FrontWorkers, Key::FrontCapacities),
+    comment: "",
+    scale: "",
+};
+
+static BACK: Row = Row {
+    name: "back",
+    kind: Kind::Lists(Key::BackCuts, Key::BackWorkers, Key::BackCapacities),
+    comment: "",
+    scale: "",
+};
+
+static COSTS: Row = Row {
+    name: "costs",
+    kind: Kind::Table,
+    comment: "",
+    scale: "",
+};
+
+static FILE: Row = Row {
+    name: "file",
+    kind: Kind::Number(200, 1, 1_000_000),
+    comment: "microseconds, 1 to 1000000: how long the server works on a file",
+    scale: "",
+};
+
+static KIB: Row = Row {
+    name: "kib",
+    kind: Kind::Number(10, 0, 1_000_000),
+    comment: "microseconds, 0 to 1000000: how long it works besides on each 1024 bytes that are given",
+    scale: "",
+};
+
+static ERROR: Row = Row {
+    name: "error",
+    kind: Kind::Number(50, 1, 1_000_000),
+    comment: "microseconds, 1 to 1000000: how long it works on any other answer",
+    scale: "",
+};
+
+static SERVERS: Row = Row {
+    name: "servers",
+    kind: Kind::Number(1, 1, 1024),
+    comment: "servers, 1 to 1024: how many work side by side, each on one request at a time",
+    scale: "",
+};
+
+static DELAY: Row = Row {
+    name: "delay",
+    kind: Kind::Number(0, 0, 1_000_000_000),
+    comment: "microseconds, 0 to 1000000000: how long each response takes beside the server's work",
+    scale: "",
+};
+
+static POLICY: Row = Row {
+    name: "policy",
+    kind: Kind::Table,
+    comment: "",
+    scale: "",
+};
+
+static TIER1: Row = Row {
+    name: "tier1",
+    kind: Kind::Table,
+    comment: "",
+    scale: "",
+};
+
+static TIER2: Row = Row {
+    name: "tier2",
+    kind: Kind::Table,
+    comment: "",
+    scale: "",
+};
+
+static TIER3: Row = Row {
+    name: "tier3",
+    kind: Kind::Table,
+    comment: "",
+    scale: "",
+};
+
+static PAGE: Row = Row {
+    name: "page",
+    kind: Kind::Table,
+    comment: "",
+    scale: "",
+};
+
+static RETRY_AFTER: Row = Row {
+    name: "retry_after",
+    kind: Kind::Number(1, 0, 86_400),
+    comment: "seconds, 0 to 86400: after how long a rejected request may be tried again (Retry-After)",
+    scale: "",
+};
+
+static POOL: Row = Row {
+    name: "pool",
+    kind: Kind::Tables,
+    comment: "at most 16 of them, each below a line [[pool]]",
+    scale: "",
+};
+
+static POOL_NAME: Row = Row {
+    name: "name",
+    kind: Kind::Text,
+    comment: "what routes name it by, unlike any other; each pool is named by a route",
+    scale: "",
+};
+
+static POOL_SERVERS: Row = Row {
+    name: "servers",
+    kind: Kind::Each(1, 1024),
+    comment: "servers, 1 to 1024: how many work side by side on the requests of its routes alone",
+    scale: "",
+};
+
+static ROUTE: Row = Row {
+    name: "route",
+    kind: Kind::Tables,
+    comment: "at most 64 of them, each below a line [[route]]",
+    scale: "",
+};
+
+static ROUTE_PREFIX: Row = Row {
+    name: "prefix",
+    kind: Kind::Text,
+    comment: "a decoded path from its first slash on: what is at it and below it is on the route",
+    scale: "",
+};
+
+static ROUTE_COST: Row = Row {
+    name: "cost",
+    kind: Kind::Each(1, 1_000_000_000),
+    comment: "microseconds, 1 to 1000000000: how long the server works on a request, whatever its answer",
+    scale: "",
+};
+
+static ROUTE_KIB: Row = Row {
+    name: "kib",
+    kind: Kind::Each(0, 1_000_000),
+    comment: "microseconds, 0 to 1000000: how long it works besides on each 1024 bytes that are given",
+    scale: "",
+};
+
+static ROUTE_DELAY: Row = Row {
+    name: "delay",
+    kind: Kind::Each(0, 1_000_000_000),
+    comment: "microseconds, 0 to 1000000000: how long each response takes beside the server's work",
+    scale: "",
+};
+
+static ROUTE_POOL: Row = Row {
+    name: "pool",
+    kind: Kind::Text,
+    comment: "the name of a pool: its servers work on these requests, and those of costs on all others",
+    scale: "",
+};
+
 impl Key {
     /// Its row.
-    pub(crate) fn row(self) -> Row
-        ensures row { IsRow result (row_of self) }
-        ensures name { length result.name.now ≤ 16 }
+    pub(crate) fn row(self) -> &'static Row
+        ensures row { IsRow result.now (row_of self) }
+        ensures name { length result.now.name.now ≤ 16 }
         ensures default { HasDefault (row_of self).kind }
     {
         match self {
-            Key::Floor => Row {
-                table: self,
-                name: "floor",
-                kind: Kind::Table,
-                comment: "",
-                scale: "",
-            },
-            Key::FrontCuts => Row {
-                table: Key::Floor,
-                name: "front_cuts",
-                kind: Kind::Numbers(&[1, 2, 3]),
-                comment: "steps, rising from at least 1, the last 3: how many of the front's are done where \
-                    each stage ends",
-                scale: "",
-            },
-            Key::FrontWorkers => Row {
-                table: Key::Floor,
-                name: "front_workers",
-                kind: Kind::Numbers(&[2, 2, 2]),
-                comment: "threads, 1 to 16 for each stage: how many work at it",
-                scale: "",
-            },
-            Key::FrontCapacities => Row {
-                table: Key::Floor,
-                name: "front_capacities",
-                kind: Kind::Numbers(&[64, 64, 64]),
-                comment: "requests, 1 to 4096 for each stage: how many its queue holds",
-                scale: "",
-            },
-            Key::BackCuts => Row {
-                table: Key::Floor,
-                name: "back_cuts",
-                kind: Kind::Numbers(&[1, 2]),
-                comment: "steps, rising from at least 1, the last 2: how many of the back's are done where each \
-                    stage ends",
-                scale: "",
-            },
-            Key::BackWorkers => Row {
-                table: Key::Floor,
-                name: "back_workers",
-                kind: Kind::Numbers(&[2, 2]),
-                comment: "threads, 1 to 16 for each stage: how many work at it",
-                scale: "",
-            },
-            Key::BackCapacities => Row {
-                table: Key::Floor,
-                name: "back_capacities",
-                kind: Kind::Numbers(&[64, 64]),
-                comment: "requests, 1 to 4096 for each stage: how many its queue holds",
-                scale: "",
-            },
-            Key::Batch => Row {
-                table: Key::Floor,
-                name: "batch",
-                kind: Kind::Number(1024, 1, 65_536),
-                comment: "pieces, 1 to 65536: how many are read at a time",
-                scale: "",
-            },
-            Key::Cache => Row {
-                table: Key::Floor,
-                name: "cache",
-                kind: Kind::Number(67_108_864, 0, 1_073_741_824),
-                comment: "bytes, 0 to 1073741824: how much the cache of pages holds",
-                scale: "",
-            },
-            Key::Front => Row {
-                table: Key::Floor,
-                name: "front",
-                kind: Kind::Lists(Key::FrontCuts, Key::FrontWorkers, Key::FrontCapacities),
-                comment: "",
-                scale: "",
-            },
-            Key::Back => Row {
-                table: Key::Floor,
-                name: "back",
-                kind: Kind::Lists(Key::BackCuts, Key::BackWorkers, Key::BackCapacities),
-                comment: "",
-                scale: "",
-            },
-            Key::Costs => Row {
-                table: self,
-                name: "costs",
-                kind: Kind::Table,
-                comment: "",
-                scale: "",
-            },
-            Key::File => Row {
-                table: Key::Costs,
-                name: "file",
-                kind: Kind::Number(200, 1, 1_000_000),
-                comment: "microseconds, 1 to 1000000: how long the server works on a file",
-                scale: "",
-            },
-            Key::Kib => Row {
-                table: Key::Costs,
-                name: "kib",
-                kind: Kind::Number(10, 0, 1_000_000),
-                comment: "microseconds, 0 to 1000000: how long it works besides on each 1024 bytes that are given",
-                scale: "",
-            },
-            Key::Error => Row {
-                table: Key::Costs,
-                name: "error",
-                kind: Kind::Number(50, 1, 1_000_000),
-                comment: "microseconds, 1 to 1000000: how long it works on any other answer",
-                scale: "",
-            },
-            Key::Servers => Row {
-                table: Key::Costs,
-                name: "servers",
-                kind: Kind::Number(1, 1, 1024),
-                comment: "servers, 1 to 1024: how many work side by side, each on one request at a time",
-                scale: "",
-            },
-            Key::Delay => Row {
-                table: Key::Costs,
-                name: "delay",
-                kind: Kind::Number(0, 0, 1_000_000_000),
-                comment: "microseconds, 0 to 1000000000: how long each response takes beside the server's work",
-                scale: "",
-            },
-            Key::Policy(PolicyTable::Policy) => Row {
-                table: self,
-                name: "policy",
-                kind: Kind::Table,
-                comment: "",
-                scale: "",
-            },
-            Key::Policy(PolicyTable::Tier1) => Row {
-                table: self,
-                name: "tier1",
-                kind: Kind::Table,
-                comment: "",
-                scale: "",
-            },
-            Key::Policy(PolicyTable::Tier2) => Row {
-                table: self,
-                name: "tier2",
-                kind: Kind::Table,
-                comment: "",
-                scale: "",
-            },
-            Key::Policy(PolicyTable::Tier3) => Row {
-                table: self,
-                name: "tier3",
-                kind: Kind::Table,
-                comment: "",
-                scale: "",
-            },
-            Key::InPolicy(table, key) => key.row(table),
-            Key::Page => Row {
-                table: self,
-                name: "page",
-                kind: Kind::Table,
-                comment: "",
-                scale: "",
-            },
-            Key::RetryAfter => Row {
-                table: Key::Page,
-                name: "retry_after",
-                kind: Kind::Number(1, 0, 86_400),
-                comment: "seconds, 0 to 86400: after how long a rejected request may be tried again (Retry-After)",
-                scale: "",
-            },
-            Key::Pool => Row {
-                table: self,
-                name: "pool",
-                kind: Kind::Tables,
-                comment: "at most 16 of them, each below a line [[pool]]",
-                scale: "",
-            },
-            Key::PoolName => Row {
-                table: Key::Pool,
-                name: "name",
-                kind: Kind::Text,
-                comment: "what routes name it by, unlike any other; each pool is named by a route",
-                scale: "",
-            },
-            Key::PoolServers => Row {
-                table: Key::Pool,
-                name: "servers",
-                kind: Kind::Each(1, 1024),
-                comment: "servers, 1 to 1024: how many work side by side on the requests of its routes alone",
-                scale: "",
-            },
-            Key::Route => Row {
-                table: self,
-                name: "route",
-                kind: Kind::Tables,
-                comment: "at most 64 of them, each below a line [[route]]",
-                scale: "",
-            },
-            Key::RoutePrefix => Row {
-                table: Key::Route,
-                name: "prefix",
-                kind: Kind::Text,
-                comment: "a decoded path from its first slash on: what is at it and below it is on the route",
-                scale: "",
-            },
-            Key::RouteCost => Row {
-                table: Key::Route,
-                name: "cost",
-                kind: Kind::Each(1, 1_000_000_000),
-                comment: "microseconds, 1 to 1000000000: how long the server works on a request, whatever its answer",
-                scale: "",
-            },
-            Key::RouteKib => Row {
-                table: Key::Route,
-                name: "kib",
-                kind: Kind::Each(0, 1_000_000),
-                comment: "microseconds, 0 to 1000000: how long it works besides on each 1024 bytes that are given",
-                scale: "",
-            },
-            Key::RouteDelay => Row {
-                table: Key::Route,
-                name: "delay",
-                kind: Kind::Each(0, 1_000_000_000),
-                comment: "microseconds, 0 to 1000000000: how long each response takes beside the server's work",
-                scale: "",
-            },
-            Key::RoutePool => Row {
-                table: Key::Route,
-                name: "pool",
-                kind: Kind::Text,
-                comment: "the name of a pool: its servers work on these requests, and those of costs on all others",
-                scale: "",
-            },
+            Key::Floor => &FLOOR,
+            Key::FrontCuts => &FRONT_CUTS,
+            Key::FrontWorkers => &FRONT_WORKERS,
+            Key::FrontCapacities => &FRONT_CAPACITIES,
+            Key::BackCuts => &BACK_CUTS,
+            Key::BackWorkers => &BACK_WORKERS,
+            Key::BackCapacities => &BACK_CAPACITIES,
+            Key::Batch => &BATCH,
+            Key::Cache => &CACHE,
+            Key::Front => &FRONT,
+            Key::Back => &BACK,
+            Key::Costs => &COSTS,
+            Key::File => &FILE,
+            Key::Kib => &KIB,
+            Key::Error => &ERROR,
+            Key::Servers => &SERVERS,
+            Key::Delay => &DELAY,
+            Key::Policy(PolicyTable::Policy) => &POLICY,
+            Key::Policy(PolicyTable::Tier1) => &TIER1,
+            Key::Policy(PolicyTable::Tier2) => &TIER2,
+            Key::Policy(PolicyTable::Tier3) => &TIER3,
+            Key::InPolicy(_, key) => key.row(),
+            Key::Page => &PAGE,
+            Key::RetryAfter => &RETRY_AFTER,
+            Key::Pool => &POOL,
+            Key::PoolName => &POOL_NAME,
+            Key::PoolServers => &POOL_SERVERS,
+            Key::Route => &ROUTE,
+            Key::RoutePrefix => &ROUTE_PREFIX,
+            Key::RouteCost => &ROUTE_COST,
+            Key::RouteKib => &ROUTE_KIB,
+            Key::RouteDelay => &ROUTE_DELAY,
+            Key::RoutePool => &ROUTE_POOL,
         }
     }
 
@@ -468,7 +510,25 @@ impl Key {
     pub fn table(self) -> Key
         ensures { result ≡ table_of self }
     {
-        self.row().table
+        match self {
+            Key::FrontCuts
+            | Key::FrontWorkers
+            | Key::FrontCapacities
+            | Key::BackCuts
+            | Key::BackWorkers
+            | Key::BackCapacities
+            | Key::Batch
+            | Key::Cache
+            | Key::Front
+            | Key::Back => Key::Floor,
+            Key::File | Key::Kib | Key::Error | Key::Servers | Key::Delay => Key::Costs,
+            Key::InPolicy(table, _) => Key::Policy(table),
+            Key::RetryAfter => Key::Page,
+            Key::PoolName | Key::PoolServers => Key::Pool,
+            Key::RoutePrefix | Key::RouteCost | Key::RouteKib | Key::RouteDelay | Key::RoutePool =>
+                Key::Route,
+            _ => self,
+        }
     }
 
     /// The integer of a document that says nothing of it, nought where none may stand.

@@ -41,7 +41,8 @@ fn prefix_in(alloc: Global, table: &Table) -> Result<Prefix, ConfigFault>
 /// The route of one value of the list.
 fn route_in(alloc: Global, document: &Table, value: &Value) -> Result<Route, ConfigFault>
     requires { pool_count (table_view document.now) ≤ MAX_POOLS }
-    ensures route { IsAnswer (route_in (table_view document.now) (as_table (view value.now))) result }
+    ensures route { IsAnswer
+        (route_in (table_view document.now) (as_table (view value.now))) result }
     ensures there { IfOk result (λ route. route.pool ≤ pool_count (table_view document.now)) }
 {
     let Some(table) = value.as_table() else {

@@ -7,7 +7,7 @@ ghost use Rattle.settings.specs.ConfigFaults.{is_memory};
 ghost use Rattle.settings.specs.Keys.{name_of, row_of};
 ghost use Rattle.settings.specs.SettingsTable.{settings_of, settings_read};
 ghost use Rattle.settings.specs.WrittenOut.{AreSettings, document_text, list_text, row_text, settings_text, text_of};
-ghost use Rattle.settings.specs.WrittenOut.{value_text};
+ghost use Rattle.settings.specs.WrittenOut.{value_text, whole_text};
 
 use crate::config::{document_of, settings_of};
 use crate::document::{number_in, numbers_in};
@@ -57,7 +57,7 @@ pub(crate) fn write_name(text: &mut String, key: Key) -> Result<(), AllocError>
     ensures { OnOk result (string_bytes text.new
         ≡ string_bytes text.old ++ (codes "# " ++ (row_of key).comment ++ codes "\n" ++ name_of key ++ codes " = ")) }
 {
-    let Row { name, comment, .. } = key.row();
+    let Row { name, comment, .. } = *key.row();
     write!(text, "# {comment}\n{name} = ")
 }
 
@@ -67,7 +67,7 @@ fn write_row(alloc: Global, text: &mut String, document: &Table, key: Key) -> Re
     ensures { OnOk result
         (string_bytes text.new ≡ string_bytes text.old ++ row_text (table_view document.now) key) }
 {
-    let Row { name, kind, .. } = key.row();
+    let Row { name, kind, .. } = *key.row();
     match kind {
         Kind::Table => write!(text, "\n[{name}]\n"),
         Kind::Number(_, _, _) | Kind::Numbers(_) => {
@@ -92,17 +92,24 @@ fn document_text(alloc: Global, document: &Table) -> Result<String, AllocError>
     Ok(text)
 }
 
+/// The same, and its pools and routes.
+fn whole_text(alloc: Global, document: &Table) -> Result<String, AllocError>
+    ensures { IfOk result (λ text. string_bytes text ≡ whole_text (table_view document.now)) }
+{
+    let mut text = document_text(alloc, document)?;
+    write_tables(alloc, &mut text, document, Key::Pool)?;
+    write_tables(alloc, &mut text, document, Key::Route)?;
+    Ok(text)
+}
+
 /// The settings of a document, written out.
 fn text_of(alloc: Global, document: &Table) -> Result<String, ConfigFault>
     ensures { MatchResult result
         (λ text. text_of (table_view document.now) ≡ Ok (string_bytes text))
         (λ fault. is_memory fault ≡ false → settings_of (table_view document.now) ≡ Err fault) }
 {
-    let _settings = settings_of(alloc, document)?;
-    let mut text = document_text(alloc, document)?;
-    write_tables(alloc, &mut text, document, Key::Pool)?;
-    write_tables(alloc, &mut text, document, Key::Route)?;
-    Ok(text)
+    settings_of(alloc, document)?;
+    Ok(whole_text(alloc, document)?)
 }
 
 /// The settings of a document (docs/FORMATS.md, "Settings"), written out as a document in which each key stands with
