@@ -14,7 +14,7 @@ import re
 import sys
 
 from lib.sources import TOP, read
-from lib.usage import parser_of
+from lib.usage import end_unread, parser_of
 import mutants
 import way
 
@@ -108,6 +108,7 @@ def chain():
 
 
 def main():
+    end_unread()
     parser = parser_of(__doc__, runs_program=False)
     parser.add_argument("kind", nargs="?", choices=[*CHANGES, "functions"], metavar="KIND", help=", ".join(CHANGES))
     kind = parser.parse_args().kind

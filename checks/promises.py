@@ -20,7 +20,7 @@ import tomllib
 
 from lib.report import end
 from lib.sources import TOP, read
-from lib.usage import parser_of
+from lib.usage import end_unread, parser_of
 from mutants import load, tables
 
 PAGE = os.path.join(TOP, "docs", "PROMISES.md")
@@ -182,6 +182,7 @@ def amiss(page, rows, refused, unnamed):
 
 
 def main():
+    end_unread()
     parser = parser_of(__doc__, runs_program=False)
     parser.add_argument("--print", action="store_true", dest="shown", help="print each promise with its wrong bodies")
     options = parser.parse_args()

@@ -20,8 +20,8 @@ from lib.sources import TOP
 from lib.usage import parser_of
 
 # What looks at sources and pages, and with which words.
-SOURCES = {"theorem": [], "promises": [], "architecture": [], "way": [], "refusals": [], "pages": [], "counts": [],
-           "mutants": ["--check"], "package_run": []}
+SOURCES = {"theorem": [], "promises": [], "architecture": [], "way": [], "refusals": [], "pages": [], "columns": [],
+           "counts": [], "mutants": ["--check"], "package_run": []}
 # What runs the program, with the words that come after it: first what looks at time.
 ALONE = {"program_pipes": [], "program_edges": []}
 BESIDE = {"compare_sizes": [], "compare_replays": ["300"], "many_messages": [], "refuse_memory": [], "waiting": None,

@@ -14,7 +14,7 @@ import re
 import sys
 
 from lib.sources import TOP, read
-from lib.usage import parser_of
+from lib.usage import end_unread, parser_of
 
 STOP = re.compile(r"^    (?P<indent>(?:  )*)(?:(?P<file>[\w/]+\.rt) )?(?P<function>\w+)$", re.MULTILINE)
 FUNCTION = r"^(?P<indent> *)(?:pub(?:\([a-z]+\))? )?fn %s\b.*?^(?P=indent)\}$"
@@ -66,6 +66,7 @@ def figures(way):
 
 
 def main():
+    end_unread()
     parser = parser_of(__doc__, runs_program=False)
     parser.add_argument("--print", action="store_true", dest="shown", help="print the stops with their numbers")
     options, page = parser.parse_args(), read("docs/ARCHITECTURE.md")

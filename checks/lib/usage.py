@@ -1,6 +1,7 @@
 """The command line of a check: the program, where it runs one, comes first; its help is the script's first text."""
 import argparse
 import os
+import signal
 
 
 def parser_of(description, runs_program=True):
@@ -21,3 +22,8 @@ def with_seeds(parser, count):
     parser.add_argument("count", metavar="COUNT", nargs="?", type=int, default=count, help="%d without it" % count)
     parser.add_argument("first", metavar="FIRST", nargs="?", type=int, default=0, help="the first seed; 0 without it")
     return parser
+
+
+def end_unread():
+    """Lets this process end quietly where its reader has ended, as `head` does: for scripts that print lists."""
+    signal.signal(signal.SIGPIPE, signal.SIG_DFL)
