@@ -17,7 +17,7 @@ PASS_FAULT = "captures/src/pass_fault.rt"
 MEMORY_ARM = "Err(PlanFault::Memory) => Err(ConfigFault::MEMORY),"
 MEMORY_GUARD = "Err(fault) if fault.kind == ConfigFaultKind::Memory => Err(AllocError),"
 MEMORY_IF = "    if error.kind() == ErrorKind::OutOfMemory {\n"
-NEXT = "            Ok(None) => break,\n            Err(fault) => return Err(ReplayFault::from(fault)),\n"
+NEXT = "        Ok(None) => return Ok(None),\n        Err(fault) => return Err(ReplayFault::from(fault)),\n"
 BUFFERS = ("        Vec::with_capacity(alloc, BUFFER_BYTES),\n        Vec::with_capacity(alloc, BUFFER_BYTES),\n"
            "    ) else {")
 REFUSED_NAME = "    match FolderFault::new(alloc, name, fault) {\n"
@@ -34,9 +34,9 @@ WRONG = [
      "fn odd() -> Result<u8, u8> {\n    Err(0)\n}\nfn parts(alloc: Global) -> Result<u8, AllocError> {\n"
      "    odd().map_err(|_| AllocError)\n}\n"
      "fn parts_of(alloc: Global, text: &[u8]) -> Result<Vec<Bytes>, AllocError>\n"),
-    ("a fault of the capture behind the allocator", "replay/src/plain.rt", NEXT,
+    ("a fault of the capture behind the allocator", "replay/src/engine.rt", NEXT,
      NEXT.replace("Err(fault) => return Err(ReplayFault::from(fault)),", "Err(_) => return Err(ReplayFault::Memory),")),
-    ("a fault of the capture, by a name", "replay/src/plain.rt", NEXT,
+    ("a fault of the capture, by a name", "replay/src/engine.rt", NEXT,
      NEXT.replace("ReplayFault::from(fault)", "ReplayFault::Memory")),
     ("the else of an option", PARTS, BEGIN,
      BEGIN + "    let Some(_) = messages.first() else {\n        return Err(AllocError);\n    };\n"),
