@@ -11,10 +11,10 @@ import os
 import re
 import sys
 
+from lib import cited
 from lib.report import end
 from lib.sources import TOP, read
 from lib.usage import parser_of
-import mutants
 
 ROW = re.compile(r"^\| (\d+) \| `(\w+)` \|", re.MULTILINE)
 FILE = re.compile(r"`((?:[\w*-]+/)*[\w*-]+\.(?:rt|antt|py|md))`")
@@ -23,7 +23,7 @@ CRATE = re.compile(r"`crates/(\w+)")
 
 def crates():
     """The crates of crates.txt that hold no tests, each with its level."""
-    _, own = mutants.crates()
+    _, own = cited.crates()
     levels = {}
 
     def level(name):

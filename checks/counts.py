@@ -13,9 +13,9 @@ import os
 import re
 import sys
 
+from lib import cited
 from lib.sources import TOP, read
 from lib.usage import end_unread, parser_of
-import mutants
 import way
 
 # One of each kind that is there and that little else names: what it is, and how it is named.
@@ -96,7 +96,7 @@ def large(texts):
 
 def chain():
     """The longest chain of crates of which each stands on the one before, without those that hold tests."""
-    _, own = mutants.crates()
+    _, own = cited.crates()
     longest = {}
 
     def of(name):

@@ -180,6 +180,7 @@ def copy(tmp_path_factory):
         (top / "crates.txt").write_text("".join(row for row in file if row.startswith(CRATE + ":")))
     (top / "checks" / "mutants").mkdir(parents=True)
     shutil.copy(os.path.join(TOP, "checks", "mutants.py"), top / "checks")
+    shutil.copytree(os.path.join(TOP, "checks", "lib"), top / "checks" / "lib")
     (top / "checks" / "mutants" / (CRATE + ".toml")).write_text(table_of(MUTANTS))
     return top
 
@@ -192,10 +193,10 @@ def run(copy, *words):
 
 def test_the_type_of_a_function(monkeypatch):
     monkeypatch.syspath_prepend(os.path.join(TOP, "checks"))
-    import mutants
+    from lib import cited
     text = "impl<\n    A,\n    B: Copy,\n> Read for Pair<A, B>\nwhere\n    A: Copy,\n{\n" \
            "    fn one(&self) -> u8 {\n        1\n    }\n}\n\nfn two<\n    A,\n>(\n    a: A,\n) {\n}\n"
-    assert [it[:2] for it in mutants.functions(text)] == [("one", "Read for Pair<A, B>"), ("two", "")]
+    assert [it[:2] for it in cited.functions(text)] == [("one", "Read for Pair<A, B>"), ("two", "")]
 
 
 def sums(mutants, top):
@@ -209,7 +210,8 @@ def sums(mutants, top):
 def two_crates(monkeypatch, tmp_path):
     monkeypatch.syspath_prepend(os.path.join(TOP, "checks"))
     import mutants
-    monkeypatch.setattr(mutants, "TOP", str(tmp_path))
+    from lib import cited
+    monkeypatch.setattr(cited, "TOP", str(tmp_path))
     for path, text in FILES.items():
         (tmp_path / path).parent.mkdir(parents=True, exist_ok=True)
         (tmp_path / path).write_text(text)
