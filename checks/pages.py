@@ -3,7 +3,7 @@
 
     checks/pages.py
 
-Looked at are names with `::`, with an underscore or with a capital inside (`serve_next`, `Cutter::feed`, `QueueStates`),
+Looked at are names with `::`, with an underscore or with a capital inside (`serve_next`, `Cutter::feed`, `CutRecord`),
 and files (with a slash, or an ending of a source; NAME and CRATE stand for any). Those of other projects stand in
 OTHERS. Exits with 1 where a page is empty, names what no source has, or OTHERS has what no page names.
 """
@@ -23,8 +23,8 @@ FILE = re.compile(r"[\w.*/-]+\.(?:rt|antt|py|md|toml|txt|edit|sh|c)|"
 INSIDE = re.compile(r"_|[a-z0-9][A-Z]")
 # Names of the standard library, of crates of the toolchain, of other programs, and words that stand for many.
 OTHERS = set("""
-    BufWriter DELAYED_DRY_RUN File::write_vectored O_NOFOLLOW OnceLock OpenOptionsExt REJECTED_DRY_RUN
-    Write::write_vectored costs.toml custom_flags response_headers_to_add server_name
+    BufWriter DELAYED_DRY_RUN O_NOFOLLOW OpenOptionsExt REJECTED_DRY_RUN
+    costs.toml custom_flags response_headers_to_add server_name
 """.split())
 # What was there once and is named as gone stands in these pages.
 PAST = {"CHANGELOG.md"}

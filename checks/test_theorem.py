@@ -115,7 +115,7 @@ RIGHT = [
     ("a derive", [(MESSAGES, "#[derive(Debug, PartialEq, Eq, Drop)]\npub enum Meaning", "pub enum Meaning")]),
     ("an import on several lines", [(REFERENCE, "Layouts.{Layout}", "Layouts.{\n  Layout,\n}")]),
     ("another clause", [(STAGED, "reply_texts F.files settings.now.served", "reply_texts  F.files settings.now.served")]),
-    ("a body", [(STAGED, "let connections = ConnectionQueues::new(alloc);", "let connections = None;")]),
+    ("a body", [(STAGED, "let connections = Connections::new(alloc);", "let connections = None;")]),
 ]
 
 

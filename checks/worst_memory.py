@@ -16,8 +16,8 @@ The formula adds up what a run keeps at a time, in bytes. All runs:
 
 The staged engine besides:
 
-  the batch            its pieces, 16 MiB and a piece at most, and 64 for each; 256 for each message that ends in them,
-                       also beyond the limit
+  the batch            its pieces, 16 MiB and a piece at most, and 192 for each record; 256 for each message that ends
+                       in them, also beyond the limit
   a part of it         4,096 messages and those of one piece, at most: 2 KiB for each; and their pages, as often as they
                        are asked for, but no more than 32 MiB (96 with what the C library keeps of pages that are given
                        back), where the cache can't hold those of all files
@@ -93,7 +93,7 @@ class Input:
         total += 24 * n["requests"] + 72 * n["in_flight"] + 96 * n["controls"] + 2 * report
         if engine == STAGED:
             part = min(n["messages"], ENOUGH + MOST_PIECE // len(SHORTEST))
-            total += min(n["waiting"], MOST_BATCH) + 64 * n["pieces"] + 256 * n["messages"]
+            total += min(n["waiting"], MOST_BATCH) + 192 * n["pieces"] + 256 * n["messages"]
             total += 2048 * part + min(n["unshared"], MOST_HELD) + n["cache"] + 160 * files + n["page"]
             total += MOST_PIECE * n["workers"]
         return total

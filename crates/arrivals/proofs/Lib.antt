@@ -3,10 +3,10 @@ pub mod Arriving
 pub mod Merging
 pub mod ArrivalLaws
 pub mod ArrivalsExist
+pub mod AheadLemmas
 pub mod CutBatches
-pub mod Merges
-pub mod PickedQueues
 pub mod Laid
 pub mod Tiered
 pub mod Gathering
+pub mod Gathers
 pub mod Parted

@@ -1,22 +1,19 @@
 -- The messages of each connection, merged in the order of the records, are the arrivals.
-use Rattle.std.proofs.Common.{◌≡◌, ◌≢◌, ℕ, ◌+◌, ◌*◌, ◌==◌, inl, inr, List, [], ◌∷◌, ◌++◌, length, refl, sym, ap, ◌∙◌, subst, arith}
-use Rattle.std.specs.Prelude.{if◌then◌else◌}
-use Rattle.std.proofs.Math.Seq.{get_or-append_seam}
+use Rattle.std.proofs.Common.{◌≡◌, ◌≢◌, ℕ, ◌+◌, ◌*◌, inl, inr, List, [], ◌∷◌, ◌++◌, length, refl, sym, ap, ◌∙◌, subst, arith}
 use Rattle.std.proofs.lemmas.Bool.Decides.{eqb_tells}
-use Rattle.std.proofs.lemmas.List.{append_assoc, append-nil, length-append, get_or_append_left}
+use Rattle.std.proofs.lemmas.List.{append-nil}
 use Rattle.captures.specs.declared.record.Record.{Record}
 use Rattle.captures.specs.declared.record.Record.TheVariants.{Piece, End, Tier}
-use Rattle.captures.specs.Reference.{connection_of, connection_now, named_by, used_once}
+use Rattle.captures.specs.Reference.{connection_now, named_by, used_once}
 use Rattle.captures.proofs.Lives.{ends_of, apart, same_connection, next_connection, once_push, once_length, unnamed}
 use Rattle.http_requests.specs.declared.messages.Message.{Message}
 use Rattle.arrivals.specs.Reference.{text_of, Arrival, messages_of, AreArrivals}
 use Rattle.arrivals.specs.Connections.{HasRead, ReadMore, HaveReadSo, HaveNumbers, IsNumber, text_now, messages_now, tier_now, arrivals_with}
-use Rattle.arrivals.specs.Batches.{Reads, ReadsOn, sent_to, origin_now, origins_after, lists_to, arrivals_in, Stand}
+use Rattle.arrivals.specs.Batches.{Reads, origin_now, Stand}
 use Rattle.arrivals.specs.declared.incoming.Origin.{Origin}
 use Rattle.arrivals.specs.declared.connections.Connection.{Connection}
 use Rattle.arrivals.specs.declared.connections.Connection.TheVariants.{Silent}
-use Rattle.arrivals.specs.declared.connection_queue.Waiting.TheVariants.{Piece as Comes, End as Ends}
-use Rattle.arrivals.proofs.Arriving.{from_piece, text_more, own_bytes, other_bytes, messages_more, own_messages, other_messages, has_messages, arrives_none, arrives_without, each_piece, arrive_with_piece, no_messages, no_text, if_true, if_false}
+use Rattle.arrivals.proofs.Arriving.{from_piece, text_more, own_bytes, other_bytes, messages_more, own_messages, other_messages, has_messages, arrives_none, arrives_without, each_piece, arrive_with_piece, no_messages, no_text}
 
 -- ---- numbers
 
@@ -27,12 +24,6 @@ named_back c n low = omega (arith, low)
 -- connections of two numbers are two
 pub differ : (c d : ℕ) (rs ss : List Record) → IsNumber c → IsNumber d → c ≢ d → connection_now c rs ≢ connection_now d ss
 differ c d rs ss lc ld other e = other (apart c d (ends_of c rs) (ends_of d ss) lc ld e)
-
-numbers_front : (rs ss : List Record) → HaveNumbers (rs ++ ss) → HaveNumbers rs
-numbers_front rs ss all = λ k d lt. subst (λ (r : Record). IsNumber (connection_of r)) (get_or_append_left rs ss d k lt) (all k d (omega (arith, lt, length-append rs ss)))
-
-number_next : (rs ss : List Record) (r : Record) → HaveNumbers (rs ++ r ∷ ss) → IsNumber (connection_of r)
-number_next rs ss r all = subst (λ (q : Record). IsNumber (connection_of q)) (get_or-append_seam rs r ss r) (all (length rs) r (omega (arith, length-append rs (r ∷ ss))))
 
 -- ---- one more record
 
@@ -158,77 +149,3 @@ stand_tier records came at conn tier stand = record {
         let now : connection_now c (records ++ Tier conn tier ∷ []) ≡ connection_now c records = same_connection c records (Tier conn tier) refl in
         subst (λ (x : ℕ). HasRead (at c) (text_of x (used_once (records ++ Tier conn tier ∷ []))) (messages_of x came)) (sym now)
         (rw (text (connection_now c records)) (stand.each c low))
-
--- ---- a batch
-
--- what a number's connection reads of the rest, once a record of some number was read
-rest_of : (conn c tick : ℕ) (bytes : List ℕ) (ms : List Message) (records rs : List Record) (found : List (List Message)) (before mid after : Connection)
-    → (conn ≡ c → ReadsOn mid (sent_to c rs) (lists_to c (origins_after (records ++ Piece tick conn bytes ∷ []) rs) found) after)
-    → ReadsOn before (sent_to c (Piece tick conn bytes ∷ rs)) (lists_to c (origins_after records (Piece tick conn bytes ∷ rs)) (ms ∷ found)) after
-    → ReadsOn (if conn == c then mid else before) (sent_to c rs) (lists_to c (origins_after (records ++ Piece tick conn bytes ∷ []) rs) found) after
-rest_of conn c tick bytes ms records rs found before mid after own all =
-    let os = origins_after (records ++ Piece tick conn bytes ∷ []) rs in
-    elim (eqb_tells conn c) [
-      | inl same ↦ rw (if_true (conn == c) mid before same.0) (own same.1)
-      | inr other ↦ rw (if_false (conn == c) mid before other.0)
-          (rw (if_false (conn == c) (Comes bytes ∷ sent_to c rs) (sent_to c rs) other.0, if_false (conn == c) (ms ∷ lists_to c os found) (lists_to c os found) other.0) at all)
-    ]
-
-own_rest : (conn tick : ℕ) (bytes : List ℕ) (ms : List Message) (records rs : List Record) (found : List (List Message)) (before after : Connection)
-    → ReadsOn before (sent_to conn (Piece tick conn bytes ∷ rs)) (lists_to conn (origins_after records (Piece tick conn bytes ∷ rs)) (ms ∷ found)) after
-    → ReadsOn before (Comes bytes ∷ sent_to conn rs) (ms ∷ lists_to conn (origins_after (records ++ Piece tick conn bytes ∷ []) rs) found) after
-own_rest conn tick bytes ms records rs found before after all =
-    let os = origins_after (records ++ Piece tick conn bytes ∷ []) rs in
-    elim (eqb_tells conn conn) [
-      | inl same ↦ rw (if_true (conn == conn) (Comes bytes ∷ sent_to conn rs) (sent_to conn rs) same.0, if_true (conn == conn) (ms ∷ lists_to conn os found) (lists_to conn os found) same.0) at all
-      | inr other ↦ absurd (other.1 refl)
-    ]
-
-rest_end : (conn c tick : ℕ) (rs : List Record) (lists : List (List Message)) (before after : Connection)
-    → ReadsOn before (sent_to c (End tick conn ∷ rs)) lists after → ReadsOn (if conn == c then Silent else before) (sent_to c rs) lists after
-rest_end conn c tick rs lists before after all = elim (eqb_tells conn c) [
-  | inl same ↦ rw (if_true (conn == c) Silent before same.0) (rw (if_true (conn == c) (Ends ∷ sent_to c rs) (sent_to c rs) same.0) at all)
-  | inr other ↦ rw (if_false (conn == c) Silent before other.0) (rw (if_false (conn == c) (Ends ∷ sent_to c rs) (sent_to c rs) other.0) at all)
-]
-
--- the connections, with another in the place of one
-abbrev with_one : ℕ → Connection → (ℕ → Connection) → ℕ → Connection
-with_one conn k before c = if conn == c then k else before c
-
-one_own : (conn : ℕ) (k : Connection) (before : ℕ → Connection) → with_one conn k before conn ≡ k
-one_own conn k before = elim (eqb_tells conn conn) [ inl same ↦ if_true (conn == conn) k (before conn) same.0 | inr other ↦ absurd (other.1 refl) ]
-
-one_other : (conn : ℕ) (k : Connection) (before : ℕ → Connection) (c : ℕ) → c ≢ conn → with_one conn k before c ≡ before c
-one_other conn k before c apart = elim (eqb_tells conn c) [ inl same ↦ absurd (apart (sym same.1)) | inr other ↦ if_false (conn == c) k (before c) other.0 ]
-
--- a whole batch: what each connection reads of it, merged in the order of the records
-pub stand_batch : (rs : List Record) (found : List (List Message)) (records : List Record) (came : List Arrival) (before after : ℕ → Connection)
-    → HaveNumbers (records ++ rs) → length found ≡ length (origins_after records rs) → Stand records came before
-    → ((c : ℕ) → ReadsOn (before c) (sent_to c rs) (lists_to c (origins_after records rs) found) (after c))
-    → Stand (records ++ rs) (came ++ arrivals_in records rs found) after
-stand_batch [] found records came before after numbers count stand reads =
-    rw (append-nil records, append-nil came) (record {
-      each = λ c low. rw (← reads c) (stand.each c low);
-      arrived = stand.arrived;
-    })
-stand_batch (End tick conn ∷ rs) found records came before after numbers count stand reads =
-    let one = stand_end records came before (with_one conn Silent before) tick conn (number_next records rs (End tick conn) numbers) (numbers_front records (End tick conn ∷ rs) numbers) stand
-    (one_own conn Silent before) (one_other conn Silent before) in
-    let all = stand_batch rs found (records ++ End tick conn ∷ []) came (with_one conn Silent before) after (rw (append_assoc records (End tick conn ∷ []) rs) numbers) count one
-    (λ c. rest_end conn c tick rs (lists_to c (origins_after (records ++ End tick conn ∷ []) rs) found) (before c) (after c) (reads c)) in
-    rw (append_assoc records (End tick conn ∷ []) rs) at all
-stand_batch (Tier conn tier ∷ rs) found records came before after numbers count stand reads =
-    let one = stand_tier records came before conn tier stand in
-    let all = stand_batch rs found (records ++ Tier conn tier ∷ []) came before after (rw (append_assoc records (Tier conn tier ∷ []) rs) numbers) count one reads in
-    rw (append_assoc records (Tier conn tier ∷ []) rs) at all
-stand_batch (Piece tick conn bytes ∷ rs) [] records came before after numbers count stand reads = absurd (let z : ⊥ = omega (arith, count) in z)
-stand_batch (Piece tick conn bytes ∷ rs) (ms ∷ found) records came before after numbers count stand reads =
-    let own = own_rest conn tick bytes ms records rs found (before conn) (after conn) (reads conn) in
-    let mid = own.0 in
-    let one = stand_piece records came before (with_one conn mid before) tick conn bytes ms (number_next records rs (Piece tick conn bytes) numbers) stand
-    (rw (one_own conn mid before) own.1) (one_other conn mid before) in
-    let counts : length found ≡ length (origins_after (records ++ Piece tick conn bytes ∷ []) rs) = omega (arith, count) in
-    let new = arrivals_with (length records) (connection_now conn records) (origin_now conn tick records) ms in
-    let all = stand_batch rs found (records ++ Piece tick conn bytes ∷ []) (came ++ new) (with_one conn mid before) after (rw (append_assoc records (Piece tick conn bytes ∷ []) rs) numbers) counts one
-    (λ c. rest_of conn c tick bytes ms records rs found (before c) mid (after c) (λ e. subst (λ x. ReadsOn mid (sent_to x rs) (lists_to x (origins_after (records ++ Piece tick conn bytes ∷ []) rs) found) (after x)) e own.2) (reads c)) in
-    rw (append_assoc records (Piece tick conn bytes ∷ []) rs, append_assoc came new (arrivals_in (records ++ Piece tick conn bytes ∷ []) rs found)) at all

@@ -96,14 +96,6 @@ pub on_ok : {T E : Type 0} {A B : Type 0} (r : Result T E) → (A → B) → OnO
 on_ok (Ok x) f a = f a
 on_ok (Err e) f a = tt
 
-pub always_on_ok : {T E : Type 0} {B : Type 0} (r : Result T E) → B → OnOk r B
-always_on_ok (Ok x) b = b
-always_on_ok (Err e) b = tt
-
 pub always_on_err : {T E : Type 0} {B : Type 0} (r : Result T E) → B → OnErr r B
 always_on_err (Ok x) b = tt
 always_on_err (Err e) b = b
-
--- tiers that are the same at each number are the same to the records
-pub tiers_same : (records : List Record) (tiers new : List ℕ) → ((c : ℕ) → tier_at new c ≡ tier_at tiers c) → AreTiers records tiers → AreTiers records new
-tiers_same records tiers new same are = record { numbers = are.numbers; each = λ c low. same c ∙ are.each c low }

@@ -1,80 +1,72 @@
--- How a batch of records is read: its pieces wait at the queues of their numbers.
-use Rattle.std.specs.Prelude.{◌≡◌, ℕ, ◌+◌, ◌<◌, ◌≤◌, ◌⊎◌, List, [], ◌∷◌, ◌++◌, Option, None, Ok, Err, sum_by}
+-- How records are taken in their order, and which messages arrive with them.
+use Rattle.std.specs.Prelude.{◌≡◌, ℕ, ◌≤◌, Bool, true, false, List, ◌++◌, map, flat_map, All}
 use Rattle.captures.specs.declared.record.Record.{Record}
-use Rattle.captures.specs.declared.record.Record.TheVariants.{Piece, End as Ends, Tier}
-use Rattle.captures.specs.declared.progress.Progress.{Progress}
-use Rattle.captures.specs.declared.version.Version.{Version}
-use Rattle.captures.specs.Reference.{max_piece_bytes}
 use Rattle.captures.specs.Captures.{sizes_of}
-use Rattle.captures.specs.CaptureFaults.{failures_of}
-use Rattle.captures.specs.Readers.{ReaderAfter, Gave, FailsNext}
-use Rattle.arrivals.specs.Batches.{sent_to}
-use Rattle.arrivals.specs.QueueStates.{QueueState, queued_at}
-use Rattle.arrivals.specs.Connections.{AreTiers}
-use Rattle.arrivals.specs.declared.connection_queue.Waiting.{Waiting}
-use Rattle.arrivals.specs.declared.batch.Ending.{Ending}
-use Rattle.arrivals.specs.declared.batch.Ending.TheVariants.{More, End, Fault}
+use Rattle.captures.specs.CaptureFaults.{longest_text}
+use Rattle.captures.specs.Reference.{used_once}
+use Rattle.http_requests.specs.Alone.{CutAlone, IsBetween, shifted}
+use Rattle.http_requests.specs.declared.cutting.PieceEnd.{PieceEnd}
+use Rattle.http_requests.specs.declared.messages.Message.{Message}
+use Rattle.arrivals.specs.Reference.{Arrival, AreArrivals}
+use Rattle.arrivals.specs.Ahead.{IsAllowed}
+use Rattle.arrivals.specs.Batches.{Reads}
+use Rattle.arrivals.specs.Connections.{HaveRead, AreTiers}
+use Rattle.arrivals.specs.Parts.{incoming_from}
+use Rattle.arrivals.specs.declared.incoming.Incoming.{Incoming}
+use Rattle.arrivals.specs.declared.incoming.PieceMessages.{PieceMessages}
+use Rattle.arrivals.specs.declared.connections.Connection.{Connection}
+use Rattle.arrivals.specs.declared.connections.Connection.TheVariants.{Silent, Open, Closed}
 
--- a queue with more after what waits there
-abbrev pub with_more : QueueState → List Waiting → QueueState
-with_more p more = record { connection = p.connection; waiting = p.waiting ++ more; lists = p.lists }
+-- the connection reads a piece, and these messages end in it, wherever in the text they end
+abbrev pub Brings : Connection → List ℕ → List Message → Connection → Type 0
+Brings before piece own after = (ms : List Message) × (map (λ m. m.what) own ≡ map (λ m. m.what) ms)
+    × Reads before piece ms after
 
--- these records, in a batch: at each queue what they bring to its number waits after what waited there
-abbrev pub Adds : List Record → List QueueState → List QueueState → Type 0
-Adds rs old new = (c : ℕ) → queued_at new c ≡ with_more (queued_at old c) (sent_to c rs)
+-- how many bytes of its text an open connection has read
+abbrev pub read_of : Connection → ℕ
+read_of Silent = 0
+read_of (Open cutter) = cutter.read
+read_of Closed = 0
 
-abbrev pub AddsOne : Record → List QueueState → List QueueState → Type 0
-AddsOne r old new = Adds (r ∷ []) old new
+-- the connection stands between two messages, and nothing of the next came yet
+abbrev pub StandsBetween : Connection → Type 0
+StandsBetween Silent = Unit {0}
+StandsBetween (Open cutter) = IsBetween cutter
+StandsBetween Closed = ⊥
 
--- Memory ran out: of the records that the reader gave the last is lost. Those before it wait, and gave their tiers.
-abbrev pub LosesOne : List QueueState → List ℕ → Progress → Option (List ℕ) → List QueueState → List ℕ → Progress
-    → Option (List ℕ) → Type 0
-LosesOne queues tiers p ahead queues_new tiers_new p_new ahead_new = (rs : List Record) × (lost : Record)
-    × Adds rs queues queues_new
-    × ((records : List Record) → AreTiers records tiers → AreTiers (records ++ rs) tiers_new)
-    × ((v : Version) (text : Option (List ℕ)) (start : ℕ) (records : List Record)
-    → ReaderAfter v text start records p ahead → ReaderAfter v text start (records ++ rs ++ lost ∷ []) p_new ahead_new)
+-- Whether the connection takes a piece that ends so, cut by itself: then the messages that were cut of it end in it.
+-- Else the connection stays.
+pub record Accepts (before : Connection) (piece : List ℕ) (end : PieceEnd) (taken : Bool)
+    (after : Connection) : Type 0 where
+  pub gives : taken ≡ true → (ms : List Message) → CutAlone piece ms end
+      → Reads before piece (shifted (read_of before) ms) after
+  pub left : taken ≡ false → after ≡ before
 
--- the reader has given these records, and after them what the ending says
-abbrev pub EndsWith : Version → Option (List ℕ) → ℕ → List Record → Ending → Progress → Option (List ℕ) → Type 0
-EndsWith v text start records More p now = ReaderAfter v text start records p now
-EndsWith v text start records End p now = Gave v text start records (Ok None) p now
-EndsWith v text start records (Fault f) p now =
-    Gave v text start records (Err f) p now × FailsNext v text start records (Err f) now
+-- what an arrival brings: its message, and where that came from
+abbrev pub incoming_of : Arrival → Incoming
+incoming_of a = record { origin = a.origin; what = a.message.what }
 
-pub record ReadOn (v : Version) (text : Option (List ℕ)) (start : ℕ) (records : List Record) (ending : Ending)
-    (p : Progress)
-    (now : Option (List ℕ)) : Type 0 where
-  pub progress : Progress
-  pub ahead : Option (List ℕ)
-  pub fits : ReaderAfter v text start records progress ahead
-  pub ends : EndsWith v text start records ending p now
+-- These records were read, these are their arrivals, and each connection and tier stands so after them; the next
+-- records may be taken.
+pub record MayGather (records rs : List Record) (arrivals : List Arrival) (connections : List Connection)
+    (tiers : List ℕ) : Type 0 where
+  pub reads : HaveRead records arrivals connections
+  pub arrived : AreArrivals (used_once records) arrivals
+  pub tiers_are : AreTiers records tiers
+  pub small : sizes_of (records ++ rs) ≤ longest_text
+  pub allowed : All IsAllowed rs
 
--- how often the reader failed
-abbrev pub CountsEnding : ℕ → ℕ → Ending → Type 0
-CountsEnding old new (Fault f) = new ≡ old + failures_of f.kind
-CountsEnding old new other = new ≡ old
+-- The next records were taken as well: these messages end in their pieces, and each connection and tier stands so.
+pub record Gathers (records rs : List Record) (arrivals : List Arrival) (connections : List Connection)
+    (tiers : List ℕ) (pieces : List PieceMessages) : Type 0 where
+  pub more : List Arrival
+  pub reads : HaveRead (records ++ rs) (arrivals ++ more) connections
+  pub arrived : AreArrivals (used_once (records ++ rs)) (arrivals ++ more)
+  pub tiers_are : AreTiers (records ++ rs) tiers
+  pub are : map incoming_of more ≡ flat_map incoming_from pieces
 
-abbrev pub IfMore : Ending → Type 0 → Type 0
-IfMore More P = P
-IfMore other P = Unit {0}
-
--- how many of these records are pieces
-abbrev pub as_piece : Record → ℕ
-as_piece (Piece tick conn bytes) = 1
-as_piece (Ends tick conn) = 0
-as_piece (Tier conn tier) = 0
-
-abbrev pub piece_count : List Record → ℕ
-piece_count records = sum_by as_piece records
-
--- so many bytes of pieces are enough for a batch
-abbrev pub enough_bytes : ℕ
-enough_bytes = 16777216
-
--- A batch has no more pieces than it was asked for, and of their bytes at most a piece beyond what is enough; where
--- more records may follow it, it has all that it was asked for, or enough bytes.
-pub record HasSize (pieces : ℕ) (rs : List Record) (ending : Ending) : Type 0 where
-  pub most : piece_count rs ≤ pieces
-  pub bytes : sizes_of rs < enough_bytes + max_piece_bytes
-  pub full : IfMore ending ((pieces ≤ piece_count rs) ⊎ (enough_bytes ≤ sizes_of rs))
+-- the same, where the pieces come after others
+abbrev pub GathersMore : List Record → List Record → List Arrival → List Connection → List ℕ → List PieceMessages
+    → List PieceMessages → Type 0
+GathersMore records rs arrivals connections tiers old new = (pieces : List PieceMessages) × (new ≡ old ++ pieces)
+    × Gathers records rs arrivals connections tiers pieces

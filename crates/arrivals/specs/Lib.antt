@@ -1,7 +1,7 @@
+pub mod Ahead
 pub mod Batches
 pub mod Connections
 pub mod Gathering
 pub mod Laws
-pub mod Picking
-pub mod QueueStates
+pub mod Parts
 pub mod Reference

@@ -1,14 +1,18 @@
 //! The connections that numbers name, read piece by piece.
 
 ghost use Rattle.std.specs.Prelude.{◌≡◌, ◌≢◌, ◌<◌, ◌≤◌, [], ℕ, List, length, ◌+◌, max, OnOk, OnErr, IfOk, IfSome};
-ghost use Rattle.std.specs.Prelude.{IfNone};
+ghost use Rattle.std.specs.Prelude.{IfNone, ◌↔◌, IsTrue};
 ghost use Rattle.http_requests.specs.declared.messages.Message.{Message as AMessage};
+ghost use Rattle.http_requests.specs.Alone.{CutAlone, shifted};
 ghost use Rattle.http_requests.specs.Cutting.{CutterAfter, max_text_bytes};
+ghost use Rattle.http_requests.specs.declared.cutting.PieceEnd.TheVariants.{Between};
+ghost use Rattle.arrivals.specs.Batches.{Reads};
+ghost use Rattle.arrivals.specs.Gathering.{Accepts, StandsBetween, read_of};
 ghost use Rattle.arrivals.specs.Connections.{HasRead, HasCapacity, ReadMore, ReadSome, LacksAt, connection_at};
 ghost use Rattle.arrivals.specs.Connections.{some_closes};
 ghost use Rattle.arrivals.specs.declared.connections.Connection.TheVariants.{Closed, Silent};
 
-use http_requests::{Cutter, Message};
+use http_requests::{Cutter, Message, PieceEnd};
 use std::alloc::{AllocError, Global};
 use std::marker::Model;
 
@@ -75,6 +79,57 @@ impl Connection {
             _ => Ok(()),
         }
     }
+
+    /// Whether it stands between two messages, and nothing of the next came yet.
+    fn is_between(&self) -> bool
+        ensures { IsTrue result ↔ StandsBetween self.now }
+    {
+        match self {
+            Connection::Silent => true,
+            Connection::Open(cutter) => cutter.is_between(),
+            Connection::Closed => false,
+        }
+    }
+
+    /// Takes a piece of so many bytes that was cut by itself, and after which its text stands between two messages.
+    fn pass(&mut self, alloc: Global, len: u64)
+        requires between { StandsBetween self.old }
+        requires capacity { HasCapacity self.old len }
+        ensures { (piece : List ℕ) (ms : List AMessage) → length piece ≡ len → CutAlone piece ms Between
+            → Reads self.old piece (shifted (read_of self.old) ms) self.new }
+    {
+        match self {
+            Connection::Silent => {
+                let mut cutter = Cutter::new(alloc);
+                cutter.pass(len);
+                *self = Connection::Open(cutter);
+            }
+            Connection::Open(cutter) => cutter.pass(len),
+            Connection::Closed => {}
+        }
+    }
+
+    /// Takes a piece that was cut by itself, where it stands between two messages and the piece doesn't end within one:
+    /// its messages are those that were cut. Whether it took the piece; else nothing changes.
+    pub(crate) fn accept(&mut self, alloc: Global, piece: &[u8], end: PieceEnd) -> bool
+        requires { HasCapacity self.old (length piece.now) }
+        ensures { Accepts self.old piece.now end result self.new }
+    {
+        if !self.is_between() {
+            return false;
+        }
+        match end {
+            PieceEnd::Between => {
+                self.pass(alloc, piece.len() as u64);
+                true
+            }
+            PieceEnd::Closed => {
+                *self = Connection::Closed;
+                true
+            }
+            PieceEnd::Unfinished => false,
+        }
+    }
 }
 
 /// The connections that numbers name, each the last one of its number. A cutter is kept for each that is open: for none
@@ -137,6 +192,28 @@ impl Connections {
     {
         self.reach(conn)?;
         self.list[conn].read(alloc, piece, out)
+    }
+
+    /// A piece came on a connection that was cut by itself: takes it where the connection stands between two messages
+    /// and the piece doesn't end within one. Then the messages that end in it are those that were cut, each place
+    /// counted from the start of the connection's text. Whether it was taken; else, and out of memory, no connection
+    /// changes. Places are made up to its number's, and no further.
+    pub fn accept(
+        &mut self,
+        alloc: Global,
+        conn: usize,
+        piece: &[u8],
+        end: PieceEnd,
+    ) -> Result<bool, AllocError>
+        requires { HasCapacity (connection_at self.old conn) (length piece.now) }
+        ensures own { IfOk result (λ taken.
+            Accepts (connection_at self.old conn) piece.now end taken (connection_at self.new conn)) }
+        ensures others { (c : ℕ) → c ≢ conn → connection_at self.new c ≡ connection_at self.old c }
+        ensures lacks { OnErr result ((c : ℕ) → connection_at self.new c ≡ connection_at self.old c) }
+        ensures capacity { length self.new ≤ max (length self.old) (conn + 1) }
+    {
+        self.reach(conn)?;
+        Ok(self.list[conn].accept(alloc, piece, end))
     }
 
     /// The connection of a number has ended: a further one comes after it. An unfinished message of it is gone.

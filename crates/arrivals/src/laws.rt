@@ -1,6 +1,5 @@
 //! Laws of the definitions that the engines' contracts cite. Each function is there for its clause alone.
 
-ghost use Rattle.arrivals.specs.Batches.{MergedArrivals};
 ghost use Rattle.arrivals.specs.Laws.{ArrivalsBegin, ArrivalsOfMessages, OneListOfArrivals};
 
 /// Records have a list of arrivals where the text of each connection has a list of messages; that each text has one is
@@ -17,10 +16,4 @@ pub fn one_list_of_arrivals()
 /// The arrivals of the first records are the first arrivals.
 pub fn arrivals_begin()
     ensures { ArrivalsBegin }
-{}
-
-/// The messages that each connection finds in its pieces of a batch, merged in the order of the records, are the
-/// arrivals of the batch.
-pub fn merged_arrivals()
-    ensures { MergedArrivals }
 {}

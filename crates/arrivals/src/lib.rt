@@ -2,22 +2,21 @@
 //! and each message arrives with the piece that holds its last byte. After its end a number names a further connection.
 #![tactic(auto)]
 
+mod ahead;
 mod batch;
-mod connection_queue;
-mod connection_queues;
 mod connections;
-mod fifo;
 mod incoming;
 pub mod laws;
 mod parts;
-mod picked;
 mod series;
+mod taking;
 mod tiers;
 
+pub use ahead::{CutRecord, cut_all};
 pub use batch::{Batch, Ending, read_batch};
-pub use connection_queues::ConnectionQueues;
 pub use connections::{Connections, some_closes};
 pub use incoming::{Incoming, Origin, PieceMessages};
 pub use parts::parts_of;
 pub use series::Series;
+pub use taking::gather;
 pub use tiers::Tiers;

@@ -1,7 +1,7 @@
 //! The messages of a batch in parts of some thousands.
 
 ghost use Rattle.std.specs.Prelude.{◌≡◌, ◌++◌, [], flat_map, IfOk};
-ghost use Rattle.arrivals.specs.Batches.{incoming_from, joined, Lays, AreParts};
+ghost use Rattle.arrivals.specs.Parts.{incoming_from, joined, Lays, AreParts};
 
 use crate::Series;
 use crate::incoming::{Incoming, PieceMessages};

@@ -11,3 +11,4 @@ pub mod MeaningLemmas
 pub mod PieceLemmas
 pub mod EndLaws
 pub mod CountLemmas
+pub mod AloneLemmas

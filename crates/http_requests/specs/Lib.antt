@@ -1,3 +1,4 @@
+pub mod Alone
 pub mod Cutting
 pub mod Lines
 pub mod Parts

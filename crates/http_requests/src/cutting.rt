@@ -1,9 +1,10 @@
 //! Cutting a text that comes in pieces.
 ghost use Rattle.std.specs.Prelude.{◌≡◌, ◌<◌, ◌≤◌, ◌++◌, ◌∷◌, [], drop, length, IfNone, IfOk, IfSome, OnErr, OnOk};
-ghost use Rattle.std.specs.Prelude.{OnSome};
+ghost use Rattle.std.specs.Prelude.{OnSome, List};
 ghost use Rattle.http_requests.specs.Reference.{max_body_bytes};
-ghost use Rattle.http_requests.specs.Cutting.{max_text_bytes};
-ghost use Rattle.http_requests.specs.Cutting.{Begins, IsUnfinished, Waits};
+ghost use Rattle.http_requests.specs.Cutting.{Begins, IsUnfinished, Waits, max_text_bytes};
+ghost use Rattle.http_requests.specs.declared.messages.Message.{Message as AMessage};
+ghost use Rattle.http_requests.specs.Alone.{CutAlone};
 
 use crate::heads::{Verdict, bad, read_block};
 use crate::messages::{Meaning, Message, MessageFault};
@@ -11,6 +12,17 @@ use crate::scanning::{Found, MAX_BLOCK_BYTES, find};
 use std::alloc::{AllocError, Global};
 use std::marker::Model;
 use std::mem;
+
+/// How a connection's text stands after a piece that was cut by itself.
+#[derive(Clone, Copy, Debug, PartialEq, Eq)]
+pub enum PieceEnd {
+    /// Between two messages: nothing of the next came yet.
+    Between,
+    /// After a message that ends the connection.
+    Closed,
+    /// In a block or a body, of which the rest is still to come.
+    Unfinished,
+}
 
 /// Where a cutter stands in the text.
 #[derive(Drop)]
@@ -147,15 +159,18 @@ struct State {
 }
 
 impl State {
-    ghost use Rattle.std.specs.Prelude.{◌≡◌, ◌+◌, ◌<◌, ◌≤◌, ℕ, List, [], length, IfOk, IsErr, OnErr, OnOk};
+    ghost use Rattle.std.specs.Prelude.{◌≡◌, ◌+◌, ◌<◌, ◌≤◌, ◌↔◌, ℕ, List, [], length};
+    ghost use Rattle.std.specs.Prelude.{IfOk, IsErr, IsTrue, OnErr, OnOk};
     ghost use Rattle.http_requests.specs.declared.messages.Message.{Message as AMessage};
     ghost use Rattle.http_requests.specs.Cutting.{IsSound, HasFailed, Enters, Took, CutterAfter, Fed, FedSome};
     ghost use Rattle.http_requests.specs.Cutting.{progress};
+    ghost use Rattle.http_requests.specs.Alone.{IsBetween};
 
     /// A cutter at the start of a text.
     fn new(alloc: Global) -> State
         ensures sound { IsSound (progress result) }
         ensures fits { CutterAfter [] [] (progress result) }
+        ensures between { IsBetween (progress result) }
     {
         State {
             alloc,
@@ -163,6 +178,13 @@ impl State {
             read: 0,
             held: Vec::new(alloc),
         }
+    }
+
+    /// Whether it stands between two messages, and nothing of the next came yet.
+    fn is_between(&self) -> bool
+        ensures { IsTrue result ↔ IsBetween (progress self.now) }
+    {
+        matches!(self.stage, CutterState::Seeking) && self.held.is_empty()
     }
 
     /// Goes on after a block: with its body, or by adding the message that ends here, which may end the piece.
@@ -284,13 +306,16 @@ impl Model for Cutter {
 }
 
 impl Cutter {
-    ghost use Rattle.std.specs.Prelude.{◌≡◌, ◌+◌, ◌≤◌, ℕ, List, [], length, IsErr, OnErr, OnOk};
+    ghost use Rattle.std.specs.Prelude.{◌≡◌, ◌+◌, ◌≤◌, ◌↔◌, ℕ, List, [], length, IsErr, IsTrue, OnErr, OnOk};
     ghost use Rattle.http_requests.specs.declared.messages.Message.{Message as AMessage};
     ghost use Rattle.http_requests.specs.Cutting.{HasFailed, CutterAfter, Fed, FedSome};
+    ghost use Rattle.http_requests.specs.Alone.{CutAlone, IsBetween, StandsSo, shifted};
+    ghost use Rattle.http_requests.specs.declared.cutting.PieceEnd.TheVariants.{Between};
 
     /// A cutter at the start of a text. It takes no memory before the first piece.
     pub fn new(alloc: Global) -> Cutter
-        ensures { CutterAfter [] [] result }
+        ensures fits { CutterAfter [] [] result }
+        ensures between { IsBetween result }
     {
         Cutter {
             state: State::new(alloc),
@@ -323,4 +348,57 @@ impl Cutter {
     {
         self.state.feed(piece, out)
     }
+
+    /// Whether it stands between two messages, and nothing of the next came yet.
+    pub fn is_between(&self) -> bool
+        ensures { IsTrue result ↔ IsBetween self.now }
+    {
+        self.state.is_between()
+    }
+
+    /// How the text stands after what was read.
+    fn end(&self) -> PieceEnd
+        ensures { StandsSo result self.now }
+    {
+        if self.state.is_between() {
+            return PieceEnd::Between;
+        }
+        match self.state.stage {
+            CutterState::Closed => PieceEnd::Closed,
+            _ => PieceEnd::Unfinished,
+        }
+    }
+
+    /// Takes a piece of so many bytes that was cut by itself, and after which the text stands between two messages
+    /// again ([`cut_alone`]). Its messages are those that were cut, each place counted from the start of the text.
+    pub fn pass(&mut self, len: u64)
+        requires between { IsBetween self.old }
+        requires room { self.old.read + len ≤ max_text_bytes }
+        ensures fed { (piece : List ℕ) (ms : List AMessage) → length piece ≡ len → CutAlone piece ms Between
+            → (past : List ℕ) (sofar : List AMessage) → CutterAfter past sofar self.old
+            → Fed past sofar self.new piece [] (shifted self.old.read ms) }
+        ensures read { self.new.read ≡ self.old.read + len }
+        ensures between { IsBetween self.new }
+    {
+        self.state.read += len;
+    }
+}
+
+/// Cuts a piece as if its connection stood between two messages: adds the messages that end in it, each place counted
+/// from the piece's start, and says how the text stands after it.
+///
+/// The piece may have 1,125,899,906,842,624 bytes. The only error is out of memory: then `out` has got some of those
+/// messages.
+pub fn cut_alone(
+    alloc: Global,
+    piece: &[u8],
+    out: &mut Vec<Message>,
+) -> Result<PieceEnd, AllocError>
+    requires { length piece.now ≤ max_text_bytes }
+    ensures { IfOk result (λ end. (ms : List AMessage)
+        × (out.new.items ≡ out.old.items ++ ms) × CutAlone piece.now ms end) }
+{
+    let mut cutter = Cutter::new(alloc);
+    cutter.feed(piece, out)?;
+    Ok(cutter.end())
 }

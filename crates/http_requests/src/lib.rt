@@ -16,6 +16,6 @@ mod messages;
 mod scanning;
 
 pub use counting::count_messages;
-pub use cutting::Cutter;
+pub use cutting::{Cutter, PieceEnd, cut_alone};
 pub use laws::{block_ends, block_in_front, cut_pieces, first_of_longer, in_order, one_reading};
 pub use messages::{Bytes, HttpVersion, Meaning, Message, MessageFault};

@@ -1,6 +1,8 @@
 //! Calls that cut texts into messages, beside the rows of `tests/framing.toml`.
 use crate::request_growths::{Want, is_like};
-use http_requests::{Bytes, Cutter, Meaning, Message, MessageFault, count_messages, cut_pieces};
+use http_requests::{
+    Bytes, Cutter, Meaning, Message, MessageFault, PieceEnd, count_messages, cut_alone, cut_pieces,
+};
 use std::process::Abort;
 use std::test::Fail;
 use test_support::A;
@@ -15,6 +17,35 @@ fn asked(end: u64) -> Want {
         modified_since: None,
     }
 }
+
+/// Pieces that are cut by themselves: how many messages end in each, and how the text stands after it.
+static ALONE: [(&str, usize, PieceEnd); 9] = [
+    ("", 0, PieceEnd::Between),
+    ("G / HTTP/1.1\nHost:\n\n", 1, PieceEnd::Between),
+    (
+        "G / HTTP/1.1\nHost:\n\nG / HTTP/1.1\nHost:\n\n",
+        2,
+        PieceEnd::Between,
+    ),
+    ("G / HTTP/1.1\nHost:\n\nG", 1, PieceEnd::Unfinished),
+    ("G / HTTP/1.1\nHost:\n", 0, PieceEnd::Unfinished),
+    (
+        "P / HTTP/1.1\nHost:\nContent-Length: 2\n\na",
+        0,
+        PieceEnd::Unfinished,
+    ),
+    (
+        "P / HTTP/1.1\nHost:\nContent-Length: 2\n\nab",
+        1,
+        PieceEnd::Between,
+    ),
+    (
+        "G / HTTP/1.1\nHost:\nConnection: close\n\nG",
+        1,
+        PieceEnd::Closed,
+    ),
+    ("G / HTTP/1.1\n\n", 1, PieceEnd::Closed),
+];
 
 /// Each message is a request of 20 bytes.
 fn check_ends(rt: &impl Abort, messages: &[Message]) {
@@ -49,6 +80,18 @@ fn cut_pieces_of_several_sizes(rt: HostRuntime) -> Result<(), Fail> {
     ];
     let out = cut_pieces(rt.alloc(), &pieces)?;
     assert!(rt; out.len() == 1 && is_like(&out[0], &asked(34)), "{out:?}");
+    Ok(())
+}
+
+/// Where it can be known how a piece leaves the text, it is.
+#[test]
+fn pieces_cut_by_themselves(rt: HostRuntime) -> Result<(), Fail> {
+    for (text, count, end) in &ALONE {
+        assert!(rt; text.len() <= 100);
+        let mut out = Vec::new(rt.alloc());
+        let ends = cut_alone(rt.alloc(), text.as_bytes(), &mut out)?;
+        assert_eq!(rt; (out.len(), ends), (*count, *end), "{text}");
+    }
     Ok(())
 }
 

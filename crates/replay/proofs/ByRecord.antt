@@ -1,5 +1,5 @@
 -- How the plain engine goes on by one more record, and how it ends.
-use Rattle.std.proofs.Common.{true, ◌⊎◌, ◌≡◌, ◌≢◌, ℕ, suc, zero, ◌+◌, ◌<◌, ◌≤◌, inl, inr, List, [], ◌∷◌, ◌++◌, length, take, map, get_or, Option, Some, None, Result, Ok, Err, refl, sym, ap, ◌∙◌, subst, arith, append-nil}
+use Rattle.std.proofs.Common.{◌≡◌, ◌≢◌, ℕ, suc, zero, ◌+◌, ◌<◌, ◌≤◌, inl, inr, List, [], ◌∷◌, ◌++◌, length, take, map, get_or, Option, Some, None, Result, Ok, Err, refl, sym, ap, ◌∙◌, subst, arith, append-nil}
 use Rattle.std.specs.Prelude.{OnOk, IfErr, slice_get, option_map}
 use Rattle.std.specs.List.{AllPairs}
 use Rattle.std.proofs.lemmas.Option.{slice_get_within, get_or_from_slice_get, same_Some}
@@ -15,7 +15,7 @@ use Rattle.captures.specs.declared.record.Record.{Record}
 use Rattle.captures.specs.declared.record.Record.TheVariants.{Piece, End, Tier}
 use Rattle.captures.specs.declared.progress.Progress.{Progress}
 use Rattle.captures.specs.declared.capture_fault.CaptureFault.{CaptureFault}
-use Rattle.captures.specs.CaptureFaults.{IsForeseen, IsHeaderFault, IsFaultAfter, failures_of}
+use Rattle.captures.specs.CaptureFaults.{IsForeseen, IsHeaderFault, IsFaultAfter}
 use Rattle.captures.specs.declared.version.Version.{Version}
 use Rattle.captures.specs.Reference.{format_of, connection_of, connection_now, of_connection, used_once, used_once_after, IsCapture, IsRecord, IsCaptureText, tick_of, ticks_of}
 use Rattle.captures.specs.CaptureFaults.{longest_text}
@@ -35,19 +35,18 @@ use Rattle.arrivals.specs.declared.connections.Connection.{Connection}
 use Rattle.arrivals.specs.declared.connections.Connection.TheVariants.{Silent}
 use Rattle.captures.specs.declared.pass_fault.PassFault.{PassFault}
 use Rattle.captures.specs.declared.pass_fault.PassFault.TheVariants as faults
-use Rattle.reference.specs.Reference.{Terms, handled, replies_of, first_line, last_line, text_before_stop, summary_of, Answers}
+use Rattle.reference.specs.Reference.{Terms, summary_of, Answers}
 use Rattle.reference.specs.Outcomes.{outcome_of}
 use Rattle.arrivals.specs.Reference.{Arrival, AreArrivals, bytes_to, text_of}
-use Rattle.replay.specs.Serving.{DeciderAfter, AreBy, IsLater, Serves, Written, ServesFull, ServesInPart, WritesMore, WritesFull, WritesInPart, WritesWhole}
+use Rattle.replay.specs.Serving.{DeciderAfter, AreBy, IsLater, Serves, WritesMore, WritesFull, WritesInPart, WritesWhole}
 use Rattle.reference.specs.Texts.{Texts, AreTexts, Wrote, WroteInPart, reply_texts}
 use Rattle.devices.specs.Reference.{WhereKnown}
-use Rattle.reference.specs.Outcomes.{IfTooMany, IfCutShort, IsOwn, IsCutOff, StopsBeyond, StopsFull, StopsWriting, Stops, Taken, Leaves}
-use Rattle.captures.specs.Passes.{pass_fault, IsWriteOrMemory, leaves_reads_unreported, reader_failures}
-use Rattle.captures.proofs.PassLemmas.{leaves_by, leaves_part, reported_reads}
+use Rattle.reference.specs.Outcomes.{IfTooMany, IfCutShort, IsOwn, IsCutOff, StopsBeyond, StopsWriting, Taken, Leaves}
+use Rattle.captures.specs.Passes.{pass_fault, IsWriteOrMemory}
+use Rattle.captures.proofs.PassLemmas.{leaves_by, leaves_part}
 use Rattle.arrivals.proofs.CutBatches.{room_of}
 use Rattle.arrivals.proofs.Merging.{stand_none, stand_piece, stand_end, stand_tier}
-use Rattle.replay.proofs.Writing.{replies_laws}
-use Rattle.replay.proofs.Texts.{wrote_none, text_begun, text_wrote, text_part, text_ended, text_ended_part}
+use Rattle.replay.proofs.Texts.{wrote_none, text_wrote, text_part, text_ended, text_ended_part}
 use Rattle.replay.proofs.Judging.{answered_is}
 use Rattle.reference.proofs.OneAnswer.{same_outcome}
 use Rattle.paths.specs.declared.file.File.{File}

@@ -13,7 +13,8 @@ use Rattle.replay.specs.Serving.{DeciderAfter, SameCapture}
 use Rattle.replay.specs.Fronts.{front_value}
 use Rattle.replay.specs.Backs.{is_back, slip_of_pending, reply_to}
 use Rattle.replay.specs.Groups.{all_of, records_of}
-use Rattle.replay.specs.Waiting.{incoming_of, AreLookedUp, Upcoming}
+use Rattle.arrivals.specs.Gathering.{incoming_of}
+use Rattle.replay.specs.Coming.{AreLookedUp, Upcoming}
 use Rattle.replay.specs.declared.pending.PendingReply.{PendingReply}
 use Rattle.replay.specs.declared.back.BackState.TheVariants.{Pending}
 use Rattle.replay.specs.declared.decider.Decider.{Decider}

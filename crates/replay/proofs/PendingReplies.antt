@@ -9,7 +9,8 @@ use Rattle.arrivals.specs.Reference.{Arrival}
 use Rattle.replay.specs.Serving.{DeciderAfter, AreBy, SameCapture}
 use Rattle.replay.specs.Fronts.{front_value, lookup_of}
 use Rattle.replay.specs.Backs.{is_back, slip_of_pending}
-use Rattle.replay.specs.Waiting.{incoming_of, AreLookedUp, InTime}
+use Rattle.arrivals.specs.Gathering.{incoming_of}
+use Rattle.replay.specs.Coming.{AreLookedUp, InTime}
 use Rattle.arrivals.specs.declared.incoming.Incoming.{Incoming}
 use Rattle.replay.specs.declared.lookup.LookedUp.{LookedUp}
 use Rattle.replay.specs.declared.pending.PendingReply.{PendingReply}

@@ -17,8 +17,9 @@ use Rattle.replay.specs.Serving.{DeciderAfter, SameCapture, records_after, Writt
 use Rattle.replay.specs.Steps.{DecidesComing}
 use Rattle.replay.specs.Fronts.{front_value}
 use Rattle.replay.specs.Backs.{slip_of_pending, reply_to}
-use Rattle.arrivals.specs.Batches.{joined}
-use Rattle.replay.specs.Waiting.{incoming_of, AreOf, AreLookedUp, InTime, Upcoming}
+use Rattle.arrivals.specs.Parts.{joined}
+use Rattle.arrivals.specs.Gathering.{incoming_of}
+use Rattle.replay.specs.Coming.{AreOf, AreLookedUp, InTime, Upcoming}
 use Rattle.reference.specs.Outcomes.{IfTooMany, IfCutShort}
 use Rattle.captures.specs.Passes.{IsWriteOrMemory}
 use Rattle.arrivals.specs.declared.incoming.Incoming.{Incoming}

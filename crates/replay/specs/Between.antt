@@ -15,7 +15,6 @@ use Rattle.arrivals.specs.Connections.{AreTiers}
 use Rattle.reference.specs.Reference.{Terms}
 use Rattle.reference.specs.Texts.{Texts, AreTexts}
 use Rattle.reference.specs.Outcomes.{Leaves}
-use Rattle.arrivals.specs.declared.connections.Connection.{Connection}
 use Rattle.replay.specs.Serving.{Serves}
 use Rattle.replay.specs.States.{EngineState, state_of}
 use Rattle.replay.specs.declared.engine.Engine.{Engine}
@@ -65,11 +64,11 @@ pub record Place : Type 0 where
   pub state : EngineState
   pub written : Option (List ℕ)
 
-abbrev pub place_of : {R S C : Type 0} → (C → List Connection) → CaptureReader R → Engine S C → Option (List ℕ) → Place
-place_of connections capture engine written = record {
+abbrev pub place_of : {R S : Type 0} → CaptureReader R → Engine S → Option (List ℕ) → Place
+place_of capture engine written = record {
   progress = progress_of capture;
   ahead = (device_of capture).bytes;
-  state = state_of connections engine;
+  state = state_of engine;
   written = written;
 }
 

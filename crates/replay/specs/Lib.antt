@@ -11,4 +11,4 @@ pub mod Serving
 pub mod States
 pub mod Steps
 pub mod Totals
-pub mod Waiting
+pub mod Coming

@@ -10,10 +10,5 @@ pub record EngineState : Type 0 where
   pub connections : List Connection
   pub decider : Decider
 
--- the state of an engine whose connections are these
-abbrev pub state_of : {S C : Type 0} → (C → List Connection) → Engine S C → EngineState
-state_of connections engine = record {
-  tiers = engine.tiers;
-  connections = connections engine.connections;
-  decider = engine.decider;
-}
+abbrev pub state_of : {S : Type 0} → Engine S → EngineState
+state_of engine = record { tiers = engine.tiers; connections = engine.connections; decider = engine.decider }

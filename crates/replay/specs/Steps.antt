@@ -10,7 +10,6 @@ use Rattle.http_requests.specs.declared.messages.Message.{Message}
 use Rattle.http_requests.specs.declared.messages.Meaning.{Meaning}
 use Rattle.arrivals.specs.Reference.{Arrival}
 use Rattle.arrivals.specs.Connections.{arrivals_with, AreTiers}
-use Rattle.arrivals.specs.QueueStates.{QueueState}
 use Rattle.arrivals.specs.declared.incoming.Incoming.{Incoming}
 use Rattle.arrivals.specs.declared.incoming.Origin.{Origin}
 use Rattle.reference.specs.Reference.{Terms, slip_of, handled_after}
@@ -33,7 +32,7 @@ use Rattle.replay.specs.Serving.{
 }
 use Rattle.reference.specs.Texts.{Texts, AreTexts, Wrote, WroteInPart}
 use Rattle.replay.specs.States.{EngineState}
-use Rattle.replay.specs.Waiting.{ComeNext, Upcoming, Waiting, connections_of}
+use Rattle.replay.specs.Coming.{ComeNext, Upcoming}
 use Rattle.replay.specs.Backs.{slip_of_pending}
 use Rattle.replay.specs.declared.pending.PendingReply.{PendingReply}
 use Rattle.replay.specs.declared.decider.Decider.{Decider}
@@ -179,33 +178,30 @@ abbrev pub AnswersComingInPart : List File → Terms → List Incoming → Decid
 AnswersComingInPart files terms messages decider old new = (i : ℕ) × (i ≤ length messages)
     × (decider.totals.answered + i ≤ decider.most) × WritesFirstInPart i files terms messages decider old new
 
--- the records whose pieces wait at the queues come next
-abbrev pub MayServeBatch : List File → Terms → List QueueState → List Origin → Decider → Type 0
-MayServeBatch files terms queues origins decider = (decider.totals.answered ≤ decider.most)
-    × (records : List Record) × (rs : List Record) × (arrivals : List Arrival)
-    × ComeNext files terms records rs arrivals queues origins decider
+-- these records come next
+abbrev pub MayServeBatch : List File → Terms → List Record → EngineState → Type 0
+MayServeBatch files terms rs state = (state.decider.totals.answered ≤ state.decider.most)
+    × (records : List Record) × (arrivals : List Arrival) × ComeNext files terms records rs arrivals state
 
 -- they were read, and the messages that arrived with them were answered
-pub record AnswersBatch (files : List File) (terms : Terms) (queues : List QueueState) (origins : List Origin)
-    (decider : Decider) (queues-after : List QueueState) (decider-after : Decider)
+pub record AnswersBatch (files : List File) (terms : Terms) (rs : List Record) (before after : EngineState)
     (old new : Option (List ℕ)) : Type 0 where
-  pub same : SameCapture decider decider-after
-  pub within : decider-after.totals.answered ≤ decider-after.most
-  pub idle : Waiting [] queues-after
-  pub serves : (records rs : List Record) (arrivals : List Arrival)
-      → ComeNext files terms records rs arrivals queues origins decider
-      → ServesMore files terms records arrivals rs (connections_of queues-after) decider-after old new
+  pub same : SameCapture before.decider after.decider
+  pub within : after.decider.totals.answered ≤ after.decider.most
+  pub tiers_are : (records : List Record) (arrivals : List Arrival) → ComeNext files terms records rs arrivals before
+      → AreTiers (records ++ rs) after.tiers
+  pub serves : (records : List Record) (arrivals : List Arrival) → ComeNext files terms records rs arrivals before
+      → ServesMore files terms records arrivals rs after.connections after.decider old new
 
 -- they are more than the most that are answered, and those within it were; a prefix of the replies to those within
 -- was written
-abbrev pub FillsWithBatch : List File → Terms → List QueueState → List Origin → Decider → Option (List ℕ)
-    → Option (List ℕ) → Type 0
-FillsWithBatch files terms queues origins decider old new = (records rs : List Record) (arrivals : List Arrival)
-    → ComeNext files terms records rs arrivals queues origins decider
-    → ServesFull files terms decider.most decider.start records arrivals rs old new
+abbrev pub FillsWithBatch : List File → Terms → List Record → EngineState → Option (List ℕ) → Option (List ℕ) → Type 0
+FillsWithBatch files terms rs state old new = (records : List Record) (arrivals : List Arrival)
+    → ComeNext files terms records rs arrivals state
+    → ServesFull files terms state.decider.most state.decider.start records arrivals rs old new
 
-abbrev pub AnswersBatchInPart : List File → Terms → List QueueState → List Origin → Decider → Option (List ℕ)
-    → Option (List ℕ) → Type 0
-AnswersBatchInPart files terms queues origins decider old new = (records rs : List Record) (arrivals : List Arrival)
-    → ComeNext files terms records rs arrivals queues origins decider
-    → ServesInPart files terms decider.most decider.start records arrivals rs old new
+abbrev pub AnswersBatchInPart : List File → Terms → List Record → EngineState → Option (List ℕ) → Option (List ℕ)
+    → Type 0
+AnswersBatchInPart files terms rs state old new = (records : List Record) (arrivals : List Arrival)
+    → ComeNext files terms records rs arrivals state
+    → ServesInPart files terms state.decider.most state.decider.start records arrivals rs old new

@@ -1,6 +1,6 @@
 //! The steps of the staged engine: the next record, or the next batch, is read and answered.
 
-ghost use Rattle.std.specs.Prelude.{◌≡◌, ◌<◌, ◌^◌, ◌⊎◌, [], true, IfOk, IfErr, OnOk};
+ghost use Rattle.std.specs.Prelude.{◌≡◌, ◌<◌, ◌^◌, ◌⊎◌, true, IfOk, IfErr, OnOk};
 ghost use Rattle.devices.specs.Devices.{CanFail, CountsBy};
 ghost use Rattle.captures.specs.Readers.{progress_of, device_of, loan_of};
 ghost use Rattle.captures.specs.Passes.{AttributesReads, leaves_reads_unreported, reader_failures, writer_failures};
@@ -10,11 +10,10 @@ ghost use Rattle.replay.specs.Floors.{served_by};
 ghost use Rattle.replay.specs.Between.{GoesOn, IsBetween, StopsFrom, place_of};
 ghost use Rattle.replay.specs.Chunks.{AreFloorSteps};
 ghost use Rattle.replay.specs.Steps.{AnswersBatch, AnswersBatchInPart, FillsWithBatch, MayServeBatch};
-ghost use Rattle.replay.specs.Waiting.{Waiting, connections_of};
+ghost use Rattle.replay.specs.States.{state_of};
 
 use crate::ReplayFault;
 use crate::chunks::{Chunk, ChunkValue};
-use crate::decider::Decider;
 use crate::engine::{Engine, answer_next};
 use crate::floors::Floors;
 use crate::load::Load;
@@ -22,18 +21,17 @@ use crate::parts::serve_parts;
 use crate::replies::Replies;
 use crate::serving::Pricing;
 use crate::source::Source;
-use arrivals::{ConnectionQueues, Ending, Origin, parts_of, read_batch};
+use arrivals::{Batch, Ending, cut_all, gather, parts_of, read_batch};
 use captures::{CaptureReader, Record};
 use devices::Output;
 use paths::Tree;
 use stage_graph::{Carries, Gate};
 use std::io::{Read, Write};
-use std::mem::replace;
 use std::sync::Wait;
 use std::thread::Threads;
 
-/// Serves a batch whose pieces wait at the queues: the connections are cut in parallel, and their messages answered in
-/// the order of their arrival.
+/// Answers the messages that arrive with the records of a batch. Their pieces are cut ahead of their turn, side by
+/// side; the messages are answered in the order of their arrival.
 fn serve_batch<
     F: Tree,
     K: Pricing,
@@ -41,37 +39,36 @@ fn serve_batch<
     C: Carries<Chunk = Chunk<F>, Value = ChunkValue, Register = Q>,
     G: Gate,
     T: Threads + Wait + Sync,
+    S,
     W: Write,
 >(
     floors: &Floors<'_, '_, F, K, C, Q, G, T>,
     load: &mut Load,
-    queues: ConnectionQueues,
-    origins: &[Origin],
-    decider: &mut Decider,
+    engine: &mut Engine<S>,
+    records: Vec<Record>,
     writer: &mut Output<W>,
-) -> Result<ConnectionQueues, ReplayFault>
+) -> Result<(), ReplayFault>
     requires can { AreFloorSteps F.files K.tariff C.step C.content C.count }
-    requires next { MayServeBatch F.files (served_by floors.now) queues origins.now decider.old }
+    requires next { MayServeBatch F.files (served_by floors.now) records.items (state_of engine.old) }
     requires device { CanFail writer.old }
-    ensures ok { IfOk result
-        (λ after. AnswersBatch F.files (served_by floors.now) queues origins.now decider.old
-        after decider.new writer.old.bytes writer.new.bytes) }
-    ensures stops { IfErr result (λ f. IfTooMany f (λ n. (n ≡ decider.old.most)
-        × FillsWithBatch F.files (served_by floors.now) queues origins.now decider.old
+    ensures ok { OnOk result
+        (AnswersBatch F.files (served_by floors.now) records.items (state_of engine.old) (state_of engine.new)
+        writer.old.bytes writer.new.bytes) }
+    ensures stops { IfErr result (λ f. IfTooMany f (λ n. (n ≡ engine.old.decider.most)
+        × FillsWithBatch F.files (served_by floors.now) records.items (state_of engine.old)
         writer.old.bytes writer.new.bytes))
         × IfErr result (λ f. IfCutShort f ((writer.new.bytes ≡ writer.old.bytes)
-        ⊎ AnswersBatchInPart F.files (served_by floors.now) queues origins.now decider.old
+        ⊎ AnswersBatchInPart F.files (served_by floors.now) records.items (state_of engine.old)
         writer.old.bytes writer.new.bytes)) }
     ensures faults { CountsBy writer_failures writer.old.failures writer.new.failures result
         × IfErr result IsOwn }
 {
     let serving = floors.serving;
     let alloc = serving.server.alloc;
-    let mut queues = queues.cut(serving.rt, alloc)?;
-    let pieces = queues.merge(alloc, origins)?;
+    let cuts = cut_all(serving.rt, alloc, floors.threads, records)?;
+    let pieces = gather(alloc, cuts, &mut engine.connections, &mut engine.tiers)?;
     let parts = parts_of(alloc, pieces)?;
-    serve_parts(floors, load, parts, decider, writer)?;
-    Ok(queues)
+    serve_parts(floors, load, parts, &mut engine.decider, writer)
 }
 
 /// Reads the next batch, and answers the messages that arrive with it. Answers whether there may be more.
@@ -88,52 +85,40 @@ fn serve_next_batch<
 >(
     floors: &Floors<'_, '_, F, K, C, Q, G, T>,
     load: &mut Load,
-    engine: &mut Engine<S, ConnectionQueues>,
+    engine: &mut Engine<S>,
     capture: &mut CaptureReader<'_, R>,
     writer: &mut Output<W>,
 ) -> Result<bool, ReplayFault>
     requires can { AreFloorSteps F.files K.tariff C.step C.content C.count }
     requires between { IsBetween
         (reply_texts F.files (served_by floors.now)) F.files (served_by floors.now)
-        (place_of connections_of capture.old engine.old writer.old.bytes)
-        × Waiting [] engine.old.connections }
+        (place_of capture.old engine.old writer.old.bytes) }
     requires devices { CanFail (device_of capture.old) × CanFail writer.old }
-    ensures on { IfOk result (λ more. Waiting [] engine.new.connections
-        × (more ≡ true → (progress_of capture.new).capacity < (progress_of capture.old).capacity)
+    ensures on { IfOk result (λ more.
+        (more ≡ true → (progress_of capture.new).capacity < (progress_of capture.old).capacity)
         × GoesOn (reply_texts F.files (served_by floors.now)) F.files (served_by floors.now)
-        (place_of connections_of capture.old engine.old writer.old.bytes) more
-        (place_of connections_of capture.new engine.new writer.new.bytes)) }
+        (place_of capture.old engine.old writer.old.bytes) more
+        (place_of capture.new engine.new writer.new.bytes)) }
     ensures fault { IfErr result
         (StopsFrom (reply_texts F.files (served_by floors.now)) F.files (served_by floors.now)
-        (place_of connections_of capture.old engine.old writer.old.bytes)
-        (place_of connections_of capture.new engine.new writer.new.bytes)) }
+        (place_of capture.old engine.old writer.old.bytes)
+        (place_of capture.new engine.new writer.new.bytes)) }
     ensures devices { (loan_of capture.new ≡ loan_of capture.old)
         × AttributesReads reader_failures leaves_reads_unreported
         (device_of capture.old).failures (device_of capture.new).failures result
         × CountsBy writer_failures writer.old.failures writer.new.failures result }
 {
-    let serving = floors.serving;
-    let alloc = serving.server.alloc;
-    let settings = serving.server.settings;
-    let most = settings.batch();
-    let batch = read_batch(
-        alloc,
-        capture,
-        most,
-        &mut engine.connections,
-        &mut engine.tiers,
-    )?;
-    let waiting = replace(&mut engine.connections, ConnectionQueues::new(alloc));
-    engine.connections = serve_batch(
-        floors,
-        load,
-        waiting,
-        &batch.origins,
-        &mut engine.decider,
-        writer,
-    )?;
-    load.judge(most, batch.origins.len());
-    match batch.ending {
+    let server = &floors.serving.server;
+    let most = server.settings.batch();
+    let batch = read_batch(server.alloc, capture, most)?;
+    let Batch {
+        records,
+        pieces,
+        ending,
+    } = batch;
+    serve_batch(floors, load, engine, records, writer)?;
+    load.judge(most, pieces);
+    match ending {
         Ending::More => Ok(true),
         Ending::End => Ok(false),
         Ending::Fault(fault) => Err(ReplayFault::from(fault)),
@@ -155,25 +140,24 @@ pub(crate) fn serve_next<
 >(
     floors: &Floors<'_, '_, F, K, C, Q, G, T>,
     load: &mut Load,
-    engine: &mut Engine<S, ConnectionQueues>,
+    engine: &mut Engine<S>,
     capture: &mut CaptureReader<'_, R>,
     writer: &mut Output<W>,
 ) -> Result<bool, ReplayFault>
     requires can { AreFloorSteps F.files K.tariff C.step C.content C.count }
     requires between { IsBetween
         (reply_texts F.files (served_by floors.now)) F.files (served_by floors.now)
-        (place_of connections_of capture.old engine.old writer.old.bytes)
-        × Waiting [] engine.old.connections }
+        (place_of capture.old engine.old writer.old.bytes) }
     requires devices { CanFail (device_of capture.old) × CanFail writer.old }
-    ensures on { IfOk result (λ more. Waiting [] engine.new.connections
-        × (more ≡ true → (progress_of capture.new).capacity < (progress_of capture.old).capacity)
+    ensures on { IfOk result (λ more.
+        (more ≡ true → (progress_of capture.new).capacity < (progress_of capture.old).capacity)
         × GoesOn (reply_texts F.files (served_by floors.now)) F.files (served_by floors.now)
-        (place_of connections_of capture.old engine.old writer.old.bytes) more
-        (place_of connections_of capture.new engine.new writer.new.bytes)) }
+        (place_of capture.old engine.old writer.old.bytes) more
+        (place_of capture.new engine.new writer.new.bytes)) }
     ensures fault { IfErr result
         (StopsFrom (reply_texts F.files (served_by floors.now)) F.files (served_by floors.now)
-        (place_of connections_of capture.old engine.old writer.old.bytes)
-        (place_of connections_of capture.new engine.new writer.new.bytes)) }
+        (place_of capture.old engine.old writer.old.bytes)
+        (place_of capture.new engine.new writer.new.bytes)) }
     ensures devices { (loan_of capture.new ≡ loan_of capture.old)
         × AttributesReads reader_failures leaves_reads_unreported
         (device_of capture.old).failures (device_of capture.new).failures result
@@ -184,9 +168,7 @@ pub(crate) fn serve_next<
     }
     let server = &floors.serving.server;
     let settings = server.settings;
-    let next = answer_next::<Replies, F, S, ConnectionQueues, R, W>(
-        server, engine, capture, writer,
-    )?;
+    let next = answer_next::<Replies, F, S, R, W>(server, engine, capture, writer)?;
     if let Some(Record::Piece { .. }) = next {
         load.add_piece(settings.batch(), &engine.messages);
     }

@@ -16,7 +16,7 @@ ghost use Rattle.paths.specs.declared.file.File.{File};
 ghost use Rattle.arrivals.specs.Reference.{Arrival};
 ghost use Rattle.replay.specs.Serving.{Counted, DeciderAfter, SameCapture, IsOnTime};
 ghost use Rattle.replay.specs.Steps.{DecidesNext};
-ghost use Rattle.replay.specs.Waiting.{AreLookedUp, InTime};
+ghost use Rattle.replay.specs.Coming.{AreLookedUp, InTime};
 ghost use Rattle.replay.specs.declared.back.BackState.TheVariants.{Pending};
 
 use crate::answers::{fault_status, outcome_answer, persistence_of};

@@ -12,10 +12,9 @@ ghost use Rattle.replay.specs.Steps.{AnswersRecord, AnswersRecordInPart, FillsWi
 use crate::ReplayFault;
 use crate::decider::Decider;
 use crate::format::{Format, answer_all};
-use crate::reading::Reading;
 use crate::server::Server;
 use crate::source::Source;
-use arrivals::{Origin, Tiers};
+use arrivals::{Connections, Origin, Tiers};
 use captures::{CaptureReader, Record};
 use devices::Output;
 use http_requests::Message;
@@ -25,45 +24,44 @@ use std::io::{Read, Write};
 
 /// What an engine has come to between two records, and its buffers.
 #[derive(Drop)]
-pub struct Engine<S, C> {
+pub struct Engine<S> {
     /// Renders the heads of replies.
     pub heads: HeadRenderer,
     /// Where the bytes of files come from.
     pub source: S,
     /// The messages of the last piece.
     pub messages: Vec<Message>,
-    pub connections: C,
+    pub connections: Connections,
     pub tiers: Tiers,
     pub decider: Decider,
 }
 
 /// Answers the messages that arrive with a record, so many in all at most.
-fn answer<T: Format, F: Tree, S: Source<F>, C: Reading, W: Write>(
+fn answer<T: Format, F: Tree, S: Source<F>, W: Write>(
     server: &Server<'_, F>,
-    engine: &mut Engine<S, C>,
+    engine: &mut Engine<S>,
     next: &Record,
     writer: &mut Output<W>,
 ) -> Result<(), ReplayFault>
     requires next { MayAnswer (T.texts F.files server.now.served) F.files server.now.served
-        next.now (state_of C.connections engine.old) }
+        next.now (state_of engine.old) }
     requires device { CanFail writer.old }
     ensures ok { OnOk result
         (AnswersRecord (T.texts F.files server.now.served) F.files server.now.served next.now
-        (state_of C.connections engine.old) (state_of C.connections engine.new)
+        (state_of engine.old) (state_of engine.new)
         writer.old.bytes writer.new.bytes) }
-    ensures idle { OnOk result (C.idle engine.old.connections → C.idle engine.new.connections) }
     ensures stops { IfErr result (λ f. IfTooMany f (λ n. (n ≡ engine.old.decider.most)
         × FillsWithRecord (T.texts F.files server.now.served) F.files server.now.served
-        next.now (state_of C.connections engine.old) writer.old.bytes writer.new.bytes))
+        next.now (state_of engine.old) writer.old.bytes writer.new.bytes))
         × IfErr result (λ f. IfCutShort f ((writer.new.bytes ≡ writer.old.bytes)
         ⊎ AnswersRecordInPart (T.texts F.files server.now.served) F.files server.now.served
-        next.now (state_of C.connections engine.old) writer.old.bytes writer.new.bytes)) }
+        next.now (state_of engine.old) writer.old.bytes writer.new.bytes)) }
     ensures faults { CountsBy writer_failures writer.old.failures writer.new.failures result
         × IfErr result IsOwn }
 {
     match next {
         Record::End { conn, .. } => {
-            engine.connections.close(usize::from(*conn));
+            engine.connections.end(usize::from(*conn));
             engine.tiers.end(*conn);
             Ok(())
         }
@@ -73,7 +71,7 @@ fn answer<T: Format, F: Tree, S: Source<F>, C: Reading, W: Write>(
         }
         Record::Piece { tick, conn, bytes } => {
             engine.messages.clear();
-            engine.connections.read(
+            engine.connections.read_piece(
                 server.alloc,
                 usize::from(*conn),
                 bytes.as_slice(),
@@ -98,25 +96,24 @@ fn answer<T: Format, F: Tree, S: Source<F>, C: Reading, W: Write>(
 }
 
 /// Reads the next record and answers the messages that arrive with it: the record, or nothing at the end.
-pub(crate) fn answer_next<T: Format, F: Tree, S: Source<F>, C: Reading, R: Read, W: Write>(
+pub(crate) fn answer_next<T: Format, F: Tree, S: Source<F>, R: Read, W: Write>(
     server: &Server<'_, F>,
-    engine: &mut Engine<S, C>,
+    engine: &mut Engine<S>,
     capture: &mut CaptureReader<'_, R>,
     writer: &mut Output<W>,
 ) -> Result<Option<Record>, ReplayFault>
     requires between { IsBetween (T.texts F.files server.now.served) F.files server.now.served
-        (place_of C.connections capture.old engine.old writer.old.bytes) }
+        (place_of capture.old engine.old writer.old.bytes) }
     requires devices { CanFail (device_of capture.old) × CanFail writer.old }
     ensures on { IfOk result (λ next.
-        (C.idle engine.old.connections → C.idle engine.new.connections)
-        × (is_some next ≡ true → (progress_of capture.new).capacity < (progress_of capture.old).capacity)
+        (is_some next ≡ true → (progress_of capture.new).capacity < (progress_of capture.old).capacity)
         × GoesOn (T.texts F.files server.now.served) F.files server.now.served
-        (place_of C.connections capture.old engine.old writer.old.bytes) (is_some next)
-        (place_of C.connections capture.new engine.new writer.new.bytes)) }
+        (place_of capture.old engine.old writer.old.bytes) (is_some next)
+        (place_of capture.new engine.new writer.new.bytes)) }
     ensures fault { IfErr result
         (StopsFrom (T.texts F.files server.now.served) F.files server.now.served
-        (place_of C.connections capture.old engine.old writer.old.bytes)
-        (place_of C.connections capture.new engine.new writer.new.bytes)) }
+        (place_of capture.old engine.old writer.old.bytes)
+        (place_of capture.new engine.new writer.new.bytes)) }
     ensures devices { (loan_of capture.new ≡ loan_of capture.old)
         × CountsBy reader_failures (device_of capture.old).failures (device_of capture.new).failures result
         × CountsBy writer_failures writer.old.failures writer.new.failures result }
@@ -126,6 +123,6 @@ pub(crate) fn answer_next<T: Format, F: Tree, S: Source<F>, C: Reading, R: Read,
         Ok(None) => return Ok(None),
         Err(fault) => return Err(ReplayFault::from(fault)),
     };
-    answer::<T, F, S, C, W>(server, engine, &next, writer)?;
+    answer::<T, F, S, W>(server, engine, &next, writer)?;
     Ok(Some(next))
 }

@@ -18,7 +18,6 @@ mod lookup;
 mod parts;
 mod pending;
 mod plain;
-mod reading;
 mod replies;
 mod rows;
 mod server;

@@ -9,12 +9,12 @@ ghost use Rattle.replay.specs.declared.back.BackState.TheVariants.{Pending};
 ghost use Rattle.replay.specs.Groups.{records_of};
 ghost use Rattle.responses.specs.Reference.{record_text};
 ghost use Rattle.arrivals.specs.Reference.{Arrival};
-ghost use Rattle.arrivals.specs.Batches.{joined};
+ghost use Rattle.arrivals.specs.Parts.{joined};
 ghost use Rattle.reference.specs.Outcomes.{IsOwn, IfTooMany, IfCutShort};
 ghost use Rattle.captures.specs.Passes.{writer_failures, IsWriteOrMemory};
 ghost use Rattle.replay.specs.Steps.{DecidesComing, ArePending, WritesComing, WritesComingInPart};
 ghost use Rattle.replay.specs.Steps.{FillsWithComing, AnswersComingInPart, MayServe};
-ghost use Rattle.replay.specs.Waiting.{Upcoming};
+ghost use Rattle.replay.specs.Coming.{Upcoming};
 ghost use Rattle.std.specs.Io.KnownBytes.{Appends};
 ghost use Rattle.devices.specs.Devices.{CanFail, CountsBy, AppendsPrefix};
 

@@ -140,7 +140,7 @@ pub(crate) fn replay_writing<T: Format, F: Tree, R: Read, W: Write>(
         tiers,
         decider,
     };
-    while answer_next::<T, F, FromSnapshot, Connections, R, W>(
+    while answer_next::<T, F, FromSnapshot, R, W>(
         &server,
         &mut engine,
         &mut capture,

@@ -23,7 +23,7 @@ use crate::server::Server;
 use crate::serving::{FloorSteps, Pricing, Serving};
 use crate::source::FromCache;
 use crate::{ReplayFault, Settings};
-use arrivals::{ConnectionQueues, Tiers};
+use arrivals::{Connections, Tiers};
 use captures::CaptureReader;
 use devices::{Input, Output};
 use page_cache::PageCache;
@@ -332,7 +332,7 @@ impl<
         let alloc = server.alloc;
         let settings = server.settings;
         let version = capture.version();
-        let connections = ConnectionQueues::new(alloc);
+        let connections = Connections::new(alloc);
         let tiers = Tiers::new(alloc);
         let decider = Decider::new(alloc, settings, capture.start(), version.max_messages())?;
         let mut engine = Engine {

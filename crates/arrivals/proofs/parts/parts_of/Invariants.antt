@@ -1,7 +1,7 @@
 use Rattle.std.proofs.Common.{◌≡◌, ◌++◌}
 use Rattle.std.specs.Prelude.{flat_map}
 use Rattle.std.specs.Vec.Iter.{into_iter_items}
-use Rattle.arrivals.specs.Batches.{incoming_from, joined}
+use Rattle.arrivals.specs.Parts.{incoming_from, joined}
 use Rattle.arrivals.proofs.Parted.{Sized}
 use Rattle.arrivals.proofs.parts.parts_of.Given as goal
 

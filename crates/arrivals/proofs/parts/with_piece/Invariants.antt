@@ -1,6 +1,6 @@
 use Rattle.std.proofs.Common.{◌≡◌, ◌++◌, map}
 use Rattle.std.specs.Vec.Iter.{into_iter_items}
-use Rattle.arrivals.specs.Batches.{incoming_from}
+use Rattle.arrivals.specs.Parts.{incoming_from}
 use Rattle.arrivals.proofs.Laid.{incoming}
 use Rattle.arrivals.proofs.parts.with_piece.Given as goal
 

@@ -1,81 +1,81 @@
-use Rattle.std.proofs.Common.{inr, arith}
-use Rattle.replay.proofs.Judging.{answered_is, passed_on, on_many, on_cut}
-use Rattle.replay.proofs.Upcoming.{come_count}
-use Rattle.replay.proofs.ByBatch.{all_ready, lists_count, none_wait, brings}
+use Rattle.std.proofs.Common.{inr, rules, arith}
+use Rattle.replay.proofs.Judging.{answered_is}
+use Rattle.replay.proofs.ByRecord.{err_many, err_cut}
+use Rattle.replay.proofs.Upcoming.{come_count, ok_more}
+use Rattle.replay.proofs.ByBatch.{all_allowed, arrived_with, may_gather, upcoming}
 use Rattle.replay.proofs.advance.serve_batch.Goals as goal
 
-pub cut-requires-clause-ready : goal.cut-requires-clause-ready
-cut-requires-clause-ready g c = λ κs lives.
+pub cut_all-requires : goal.cut_all-requires
+cut_all-requires g c =
     let next = c.requires.next in
-    all_ready _ _ next.1 next.2 next.3 _ _ _ next.4
+    (search rules, all_allowed next.3.version next.1 _ next.3.rules.each)
 
-pub merge-requires : goal.merge-requires
-merge-requires g c =
+pub gather-requires : goal.gather-requires
+gather-requires g c =
     let next = c.requires.next in
-    lists_count _ _ next.1 next.2 next.3 _ _ _ _ next.4 c.in_ok-queues.ensures
+    (next.1, next.2, may_gather _ _ next.1 _ _ next.2 _ next.3 c.in_ok-cuts.ensures)
 
 pub serve_parts-requires-clause-next : goal.serve_parts-requires-clause-next
 serve_parts-requires-clause-next g c =
     let next = c.requires.next in
-    let found = c.in_ok-pieces.ensures in
-    let b = brings _ _ next.1 next.2 next.3 _ _ _ _ _ _ _ next.4 c.in_ok-queues.ensures found.origins found.found found.queues c.in_ok-parts.ensures.joined in
-    (next.0, next.3, b.more, b.up)
+    let same = c.in_ok-cuts.ensures in
+    let gathered = arrived_with _ _ next.1 _ _ next.2 _ _ _ _ next.3 same (c.in_ok-pieces.ensures next.1 next.2) in
+    (next.0, next.2, gathered.more, upcoming _ _ next.1 _ next.2 _ _ _ _ _ next.3 gathered c.in_ok-parts.ensures.joined)
 
 pub returns-clause-ok : goal.returns-clause-ok
 returns-clause-ok g c =
-    let found = c.in_ok-pieces.ensures in
-    let served = c.in_ok-serve_parts.ensures in
-    let decides = served.ok.0 in
-    record {
-      same = decides.same;
-      within = served.ok.1;
-      idle = none_wait _ _ _ c.in_ok-queues.ensures found.queues;
-      serves = λ records rs arrivals next.
-          (let b = brings _ _ records rs arrivals _ _ _ _ _ _ _ next c.in_ok-queues.ensures found.origins found.found found.queues c.in_ok-parts.ensures.joined in
+    let same = c.in_ok-cuts.ensures in
+    ok_more c.serve_parts.result _ _
+    (λ served. record {
+      same = served.0.same;
+      within = served.1;
+      tiers_are = λ records arrivals next. (arrived_with _ _ records _ _ arrivals _ _ _ _ next same (c.in_ok-pieces.ensures records arrivals)).tiers_are;
+      serves = λ records arrivals next.
+          (let gathered = arrived_with _ _ records _ _ arrivals _ _ _ _ next same (c.in_ok-pieces.ensures records arrivals) in
+          let up = upcoming _ _ records _ arrivals _ _ _ _ _ next gathered c.in_ok-parts.ensures.joined in
           record {
-            more = b.more;
-            serves = record { reads = b.reads; arrived = b.arrived; stands = decides.stands arrivals b.more b.up };
-            written = rw decides.same.0 (served.ok.2 arrivals b.more b.up);
+            more = gathered.more;
+            serves = record { reads = gathered.reads; arrived = gathered.arrived; stands = served.0.stands arrivals gathered.more up };
+            written = rw served.0.same.0 (served.2 arrivals gathered.more up);
           });
-    }
+    })
+    c.serve_parts.ensures.ok
 
-pub returns-in_err-serve_parts-clause-stops : goal.returns-in_err-serve_parts-clause-stops
-returns-in_err-serve_parts-clause-stops g c =
-    let found = c.in_ok-pieces.ensures in (
-      passed_on c.from_residual-in_err-serve_parts.result _ _
-          (λ f same. rw same (on_many c.in_err-serve_parts.field-0.0 _ _
+pub returns-clause-stops : goal.returns-clause-stops
+returns-clause-stops g c =
+    let same = c.in_ok-cuts.ensures in (
+      err_many c.serve_parts.result _ _
           (λ n full. (
             full.0,
-            λ records rs arrivals next.
-                (let b = brings _ _ records rs arrivals _ _ _ _ _ _ _ next c.in_ok-queues.ensures found.origins found.found found.queues c.in_ok-parts.ensures.joined in
-                let is = answered_is _ _ arrivals _ b.up.stands.counted in
-                let count = come_count _ _ arrivals b.more _ _ b.up in
+            λ records arrivals next.
+                (let gathered = arrived_with _ _ records _ _ arrivals _ _ _ _ next same (c.in_ok-pieces.ensures records arrivals) in
+                let up = upcoming _ _ records _ arrivals _ _ _ _ _ next gathered c.in_ok-parts.ensures.joined in
+                let is = answered_is _ _ arrivals _ up.stands.counted in
+                let count = come_count _ _ arrivals gathered.more _ _ up in
                 let all = full.3 in
                 let beyond = full.2 in
                 record {
-                  more = b.more;
-                  arrived = b.arrived;
+                  more = gathered.more;
+                  arrived = gathered.arrived;
                   within = full.1;
                   full = omega (arith, is, all);
                   beyond = omega (arith, count, beyond);
-                  written = full.4 arrivals b.more b.up;
+                  written = full.4 arrivals gathered.more up;
                 }),
           ))
-          c.in_err-serve_parts.ensures.stops.0))
-          c.from_residual-in_err-serve_parts.ensures.1,
-      passed_on c.from_residual-in_err-serve_parts.result _ _
-          (λ f same. rw same (on_cut c.in_err-serve_parts.field-0.0 _ _
-          (λ short. inr (λ records rs arrivals next.
-          (let b = brings _ _ records rs arrivals _ _ _ _ _ _ _ next c.in_ok-queues.ensures found.origins found.found found.queues c.in_ok-parts.ensures.joined in
-          let is = answered_is _ _ arrivals _ b.up.stands.counted in
+          c.serve_parts.ensures.stops.0,
+      err_cut c.serve_parts.result _ _
+          (λ short. inr (λ records arrivals next.
+          (let gathered = arrived_with _ _ records _ _ arrivals _ _ _ _ next same (c.in_ok-pieces.ensures records arrivals) in
+          let up = upcoming _ _ records _ arrivals _ _ _ _ _ next gathered c.in_ok-parts.ensures.joined in
+          let is = answered_is _ _ arrivals _ up.stands.counted in
           let few = short.2 in
           record {
-            more = b.more;
-            arrived = b.arrived;
+            more = gathered.more;
+            arrived = gathered.arrived;
             within = short.0;
             few = omega (arith, is, few);
-            written = short.3 arrivals b.more b.up;
+            written = short.3 arrivals gathered.more up;
           })))
-          c.in_err-serve_parts.ensures.stops.1))
-          c.from_residual-in_err-serve_parts.ensures.1,
+          c.serve_parts.ensures.stops.1,
     )

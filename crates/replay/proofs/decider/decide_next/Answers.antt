@@ -1,4 +1,4 @@
-use Rattle.std.proofs.Common.{arith, subst, ◌≤◌, ◌+◌, ◌∙◌, ◌≡◌, ap, refl}
+use Rattle.std.proofs.Common.{arith, subst, ◌≤◌, ◌+◌, ◌∙◌, ap}
 use Rattle.reference.specs.Reference.{offers_of}
 use Rattle.replay.specs.Backs.{response_of}
 use Rattle.reference.proofs.Offering.{offers_few}

@@ -8,7 +8,6 @@ use Rattle.replay.proofs.engine.answer_next.Goals as goal
 
 pub returns-in-Ok-None-clause-on : goal.returns-in-Ok-None-clause-on
 returns-in-Ok-None-clause-on g c = (
-  λ idle. idle,
   search rules,
   λ version text begun b.
       ended _ _ _ version text begun b.records b.arrivals _ _ _ _ _ _ _ b.answered b.read c.in-Ok-None.field-0-is (c.in-Ok-None.ensures.next _ _ _ _ b.read).0,
@@ -16,7 +15,7 @@ returns-in-Ok-None-clause-on g c = (
 
 pub returns-in-Err-clause-fault : goal.returns-in-Err-clause-fault
 returns-in-Err-clause-fault g c = λ version text begun b.
-    fault_leaves (g.T.Format.texts g.F.Tree.files c.args.server.now.served) g.F.Tree.files c.args.server.now.served version text begun b.records b.arrivals _ _ c.next_record.new.self.input.now.bytes _ (state_of g.C.Reading.connections c.args.engine.now) _ c.in-Err.fault c.from.result b.answered b.read c.from.ensures
+    fault_leaves (g.T.Format.texts g.F.Tree.files c.args.server.now.served) g.F.Tree.files c.args.server.now.served version text begun b.records b.arrivals _ _ c.next_record.new.self.input.now.bytes _ (state_of c.args.engine.now) _ c.in-Err.fault c.from.result b.answered b.read c.from.ensures
     (c.in-Err.ensures.next _ _ _ _ b.read).0 (c.in-Err.ensures.next _ _ _ _ b.read).1 (search rules)
 
 pub answer-requires-clause-next : goal.answer-requires-clause-next
@@ -44,7 +43,7 @@ returns-in_err-answer-clause-fault g c =
     (let fits = gave_some version _ _ _ b.records _ _ _ c.in-Ok-Some.field-0-is (c.in-Ok-Some.ensures.next _ _ _ _ b.read).0 in
     let fault = c.in_err-answer.field-0.0 in
     let says = c.in_err-answer.ensures in
-    own_step_leaves (g.T.Format.texts g.F.Tree.files c.args.server.now.served) g.F.Tree.files c.args.server.now.served version text begun _ _ _ _ _ (state_of g.C.Reading.connections c.args.engine.now) _ _ fault b (c.in-Ok-Some.next ∷ []) fits says.faults.1
+    own_step_leaves (g.T.Format.texts g.F.Tree.files c.args.server.now.served) g.F.Tree.files c.args.server.now.served version text begun _ _ _ _ _ (state_of c.args.engine.now) _ _ fault b (c.in-Ok-Some.next ∷ []) fits says.faults.1
     (on_many fault _ _ (λ n full. (full.0, full.1 b.records b.arrivals b.tiers_are b.answered.serves)) says.stops.0)
     (on_cut fault _ _
     (λ short. elim short [
@@ -56,11 +55,10 @@ returns-in_err-answer-clause-fault g c =
 
 pub returns-clause-on : goal.returns-clause-on
 returns-clause-on g c = (
-  c.in_ok-answer.ensures.idle,
   search rules,
   λ version text begun b.
       (let fits = gave_some version _ _ _ b.records _ _ _ c.in-Ok-Some.field-0-is (c.in-Ok-Some.ensures.next _ _ _ _ b.read).0 in
       let one = c.in_ok-answer.ensures.ok in
-      between_more (g.T.Format.texts g.F.Tree.files c.args.server.now.served) g.F.Tree.files c.args.server.now.served version text begun _ _ _ _ (state_of g.C.Reading.connections c.args.engine.now) _ _ _ b (c.in-Ok-Some.next ∷ []) fits (one.tiers_are b.records b.tiers_are)
+      between_more (g.T.Format.texts g.F.Tree.files c.args.server.now.served) g.F.Tree.files c.args.server.now.served version text begun _ _ _ _ (state_of c.args.engine.now) _ _ _ b (c.in-Ok-Some.next ∷ []) fits (one.tiers_are b.records b.tiers_are)
       (one.serves b.records b.arrivals b.tiers_are b.answered.serves) one.same one.within),
 )

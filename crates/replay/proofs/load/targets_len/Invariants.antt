@@ -1,4 +1,4 @@
-use Rattle.std.proofs.Common.{◌≡◌, ◌^◌, ◌-◌, map, min, take}
+use Rattle.std.proofs.Common.{◌≡◌, map, min, take}
 use Rattle.replay.specs.Loads.{targets_len}
 use Rattle.replay.proofs.load.targets_len.Given as goal
 

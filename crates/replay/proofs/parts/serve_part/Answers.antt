@@ -1,4 +1,4 @@
-use Rattle.std.proofs.Common.{◌≡◌, ◌-◌, ◌∙◌, ◌++◌, length, take, refl, arith}
+use Rattle.std.proofs.Common.{◌≡◌, ◌-◌, ◌∙◌, ◌++◌, length, take, arith}
 use Rattle.std.proofs.lemmas.List.{length-append}
 use Rattle.replay.proofs.Judging.{answered_is, cut_short, own_many, passed_on}
 use Rattle.replay.proofs.Upcoming.{come_count, first_come, take_count, take_short, ok_both, short_cut, short_many}

@@ -1,6 +1,6 @@
 use Rattle.std.proofs.Common.{◌≡◌, ◌≤◌}
 use Rattle.std.specs.Vec.Iter.{into_iter_items}
-use Rattle.arrivals.specs.Batches.{joined}
+use Rattle.arrivals.specs.Parts.{joined}
 use Rattle.replay.proofs.Upcoming.{Served}
 use Rattle.replay.proofs.parts.serve_parts.Given as goal
 

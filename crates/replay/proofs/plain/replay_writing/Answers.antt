@@ -1,13 +1,11 @@
 use Rattle.std.proofs.Common.{◌∙◌, [], refl, sym, arith, inl, rules}
 use Rattle.devices.proofs.Appending.{prefix_all}
-use Rattle.reference.specs.Reference.{Choice}
 use Rattle.arrivals.proofs.Tiered.{tiers_none}
-use Rattle.captures.proofs.UpgradeLaws.{few_messages}
 use Rattle.replay.specs.States.{state_of}
 use Rattle.replay.proofs.Texts.{text_begun}
 use Rattle.replay.proofs.Judging.{passed_on}
 use Rattle.replay.proofs.ByRecord.{serves_none, all_written, ends_short, leaves_reported, left_first, short_leaves, halts_first}
-use Rattle.replay.proofs.Stepping.{goes_on, is_over, within_format}
+use Rattle.replay.proofs.Stepping.{is_over, within_format}
 use Rattle.replay.proofs.plain.replay_writing.Goals as goal
 
 pub returns-in_err-begin-clause-fault : goal.returns-in_err-begin-clause-fault
@@ -61,7 +59,7 @@ returns-in_err-answer_next-clause-fault g c =
 
 pub returns-in_err-finish-clause-fault : goal.returns-in_err-finish-clause-fault
 returns-in_err-finish-clause-fault g c =
-    let e = is_over _ (g.T.Format.texts g.F.Tree.files c.args.settings.now.served) g.F.Tree.files c.args.settings.now.served _ _ _ _ _ (state_of (λ connections. connections) c.answer_next.new.engine) _ (sym c.is_some.ensures ∙ c.if-is_some.false) (c.in_ok-answer_next.ensures.on.2 _ _ _ c.loop-engine.invariant.0) in
+    let e = is_over _ (g.T.Format.texts g.F.Tree.files c.args.settings.now.served) g.F.Tree.files c.args.settings.now.served _ _ _ _ _ (state_of c.answer_next.new.engine) _ (sym c.is_some.ensures ∙ c.if-is_some.false) (c.in_ok-answer_next.ensures.on.1 _ _ _ c.loop-engine.invariant.0) in
     passed_on c.from_residual-in_err-finish.result _ _
     (λ f same. rw same (short_leaves (g.T.Format.texts g.F.Tree.files c.args.settings.now.served) _ _ _ _ c.in_err-finish.field-0.0 c.in_err-finish.ensures.own
     (ends_short (g.T.Format.texts g.F.Tree.files c.args.settings.now.served) g.F.Tree.files c.args.settings.now.served _ _ _ e.records e.arrivals _ _ _ _ _ _ e.answered.laws e.rules e.whole e.answered.serves e.answered.written (c.in_err-finish.ensures.part g.F.Tree.files c.args.settings.now.served) refl (within_format (g.T.Format.texts g.F.Tree.files c.args.settings.now.served) g.F.Tree.files c.args.settings.now.served _ _ _ _ _ _ e.answered))))
@@ -70,7 +68,7 @@ returns-in_err-finish-clause-fault g c =
 pub returns-clause-ok : goal.returns-clause-ok
 returns-clause-ok g c =
     let files = g.F.Tree.files in let terms = c.args.settings.now.served in
-    let e = is_over _ (g.T.Format.texts g.F.Tree.files c.args.settings.now.served) g.F.Tree.files c.args.settings.now.served _ _ _ _ _ (state_of (λ connections. connections) c.answer_next.new.engine) _ (sym c.is_some.ensures ∙ c.if-is_some.false) (c.in_ok-answer_next.ensures.on.2 _ _ _ c.loop-engine.invariant.0) in
+    let e = is_over _ (g.T.Format.texts g.F.Tree.files c.args.settings.now.served) g.F.Tree.files c.args.settings.now.served _ _ _ _ _ (state_of c.answer_next.new.engine) _ (sym c.is_some.ensures ∙ c.if-is_some.false) (c.in_ok-answer_next.ensures.on.1 _ _ _ c.loop-engine.invariant.0) in
     all_written (g.T.Format.texts g.F.Tree.files c.args.settings.now.served) g.F.Tree.files c.args.settings.now.served _ _ c.answer_next.new.engine.decider.totals.answered e.records e.arrivals c.answer_next.new.engine.connections c.answer_next.new.engine.decider _ _ _ _ _ e.answered.laws e.rules e.whole e.answered.serves e.answered.written
     (c.in_ok-finish.ensures.written files terms) refl (within_format (g.T.Format.texts g.F.Tree.files c.args.settings.now.served) g.F.Tree.files c.args.settings.now.served _ _ _ _ _ _ e.answered) c.outcome_of-outcome.ensures.version
     c.outcome_of-outcome.ensures.rejected (c.outcome_of-outcome.ensures.summary files terms e.arrivals e.answered.serves.stands)

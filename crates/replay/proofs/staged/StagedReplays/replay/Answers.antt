@@ -1,14 +1,11 @@
-use Rattle.std.proofs.Common.{[], refl, ap, ◌∙◌, arith, inl, rules}
+use Rattle.std.proofs.Common.{[], refl, ◌∙◌, arith, inl, rules}
 use Rattle.devices.proofs.Appending.{prefix_all}
-use Rattle.reference.specs.Reference.{Choice}
 use Rattle.reference.specs.Texts.{reply_texts}
 use Rattle.arrivals.proofs.Tiered.{tiers_none}
 use Rattle.replay.specs.States.{state_of}
-use Rattle.replay.specs.Waiting.{connections_of}
 use Rattle.replay.proofs.Judging.{passed_on}
 use Rattle.replay.proofs.Writing.{replies_laws}
 use Rattle.replay.proofs.ByRecord.{serves_none, has_answered, all_written, ends_short, leaves_reported, left_first, short_leaves, halts_first}
-use Rattle.replay.proofs.ByBatch.{waits_none}
 use Rattle.replay.proofs.Stepping.{is_over, within_format}
 use Rattle.replay.proofs.Texts.{text_begun}
 use Rattle.replay.proofs.staged.StagedReplays.replay.Goals as goal
@@ -41,13 +38,12 @@ loop-engine-init g c =
         tiers_are = tiers_none c.new-tiers.result c.new-tiers.ensures;
         answered = record {
           laws = replies_laws files terms;
-          serves = serves_none files terms _ _ (ap connections_of c.new-connections.ensures) (rw c.server.view_is at (c.in_ok-decider.ensures.none files));
+          serves = serves_none files terms _ _ c.new-connections.ensures (rw c.server.view_is at (c.in_ok-decider.ensures.none files));
           written = text_begun (reply_texts g.F.Tree.files c.args.self.now.serving.now.server.served) _ c.args.writer.now.bytes c.write_first_line.new.writer.bytes (replies_laws files terms) c.in_ok-write_first_line.ensures.written;
           limit = of.1 ∙ c.max_messages.ensures;
           within = (let none = of.2 in omega (arith, none));
         };
       },
-      waits_none _ c.new-connections.ensures,
       refl,
       c.in-Ok.ensures.ok.count,
       c.in_ok-write_first_line.ensures.failures,
@@ -64,7 +60,7 @@ returns-in_err-serve_next-clause-fault g c =
 
 pub returns-in_err-write_last_line-clause-fault : goal.returns-in_err-write_last_line-clause-fault
 returns-in_err-write_last_line-clause-fault g c =
-    let e = is_over _ (reply_texts g.F.Tree.files c.args.self.now.serving.now.server.served) g.F.Tree.files c.args.self.now.serving.now.server.served _ _ _ _ _ (state_of connections_of c.serve_next.new.engine) _ c.if-branch.false (c.in_ok-serve_next.ensures.on.2 _ _ _ c.loop-engine.invariant.0) in
+    let e = is_over _ (reply_texts g.F.Tree.files c.args.self.now.serving.now.server.served) g.F.Tree.files c.args.self.now.serving.now.server.served _ _ _ _ _ (state_of c.serve_next.new.engine) _ c.if-branch.false (c.in_ok-serve_next.ensures.on.1 _ _ _ c.loop-engine.invariant.0) in
     passed_on c.from_residual-in_err-write_last_line.result _ _
     (λ f same. rw same (record {
       leaves = short_leaves (reply_texts g.F.Tree.files c.args.self.now.serving.now.server.served) _ _ _ _ c.in_err-write_last_line.field-0.0 c.in_err-write_last_line.ensures.own
@@ -75,7 +71,7 @@ returns-in_err-write_last_line-clause-fault g c =
 pub returns-clause-ok : goal.returns-clause-ok
 returns-clause-ok g c =
     let files = g.F.Tree.files in let terms = c.args.self.now.serving.now.server.served in
-    let e = is_over _ (reply_texts g.F.Tree.files c.args.self.now.serving.now.server.served) g.F.Tree.files c.args.self.now.serving.now.server.served _ _ _ _ _ (state_of connections_of c.serve_next.new.engine) _ c.if-branch.false (c.in_ok-serve_next.ensures.on.2 _ _ _ c.loop-engine.invariant.0) in
+    let e = is_over _ (reply_texts g.F.Tree.files c.args.self.now.serving.now.server.served) g.F.Tree.files c.args.self.now.serving.now.server.served _ _ _ _ _ (state_of c.serve_next.new.engine) _ c.if-branch.false (c.in_ok-serve_next.ensures.on.1 _ _ _ c.loop-engine.invariant.0) in
     has_answered files terms _ _ _ _
     (all_written (reply_texts g.F.Tree.files c.args.self.now.serving.now.server.served) g.F.Tree.files c.args.self.now.serving.now.server.served c.version-version.result _ c.serve_next.new.engine.decider.totals.answered e.records e.arrivals _ c.serve_next.new.engine.decider _ _ _ _ _ e.answered.laws e.rules e.whole e.answered.serves e.answered.written c.in_ok-write_last_line.ensures.written refl
     (within_format (reply_texts g.F.Tree.files c.args.self.now.serving.now.server.served) g.F.Tree.files c.args.self.now.serving.now.server.served _ _ _ _ _ _ e.answered) c.outcome_of-outcome.ensures.version c.outcome_of-outcome.ensures.rejected (c.outcome_of-outcome.ensures.summary files terms e.arrivals e.answered.serves.stands))

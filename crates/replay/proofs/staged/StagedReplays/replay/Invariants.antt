@@ -1,15 +1,13 @@
-use Rattle.std.proofs.Common.{[], ◌≡◌}
+use Rattle.std.proofs.Common.{◌≡◌}
 use Rattle.reference.specs.Texts.{reply_texts}
 use Rattle.replay.specs.Between.{Between}
 use Rattle.replay.specs.States.{state_of}
-use Rattle.replay.specs.Waiting.{Waiting, connections_of}
 use Rattle.replay.proofs.staged.StagedReplays.replay.Given as goal
 
--- some records were read, the messages that arrived with them are answered, and nothing waits
+-- some records were read, and the messages that arrived with them are answered
 abbrev pub invariant-loop-engine : goal.invariant-loop-engine
 invariant-loop-engine g l =
-    Between (reply_texts g.F.Tree.files l.fn.self.serving.now.server.served) g.F.Tree.files l.fn.self.serving.now.server.served l.version l.fn.reader.bytes l.fn.writer.bytes l.capture.progress l.capture.input.now.bytes (state_of connections_of l.engine) l.writer.bytes
-    × Waiting [] l.engine.connections
+    Between (reply_texts g.F.Tree.files l.fn.self.serving.now.server.served) g.F.Tree.files l.fn.self.serving.now.server.served l.version l.fn.reader.bytes l.fn.writer.bytes l.capture.progress l.capture.input.now.bytes (state_of l.engine) l.writer.bytes
     × (l.capture.input.ghost_name ≡ l.initial.capture.input.ghost_name) × (l.capture.input.now.failures ≡ l.fn.reader.failures) × (l.writer.failures ≡ l.fn.writer.failures)
 
 abbrev pub decreases-loop-engine : goal.decreases-loop-engine
