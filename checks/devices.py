@@ -37,8 +37,8 @@ SETTINGS = b"[policy]\ndepth = 50\n[floor]\nbatch = 100\n"
 LARGE = 6000
 LARGE_REQUEST = REQUEST.replace(b".txt", b".txt?" + b"x" * 2005)
 LARGE_SETTINGS = b"[policy]\ndepth = 50\n[floor]\nbatch = 8192\n"
-# Batches that are worth a floor with more than one worker; one connection's pieces aren't cut by threads. A back floor
-# pays for 64 MiB of pages that aren't in the cache. Each comes after 256 pieces that tell that floors pay.
+# Batches that are worth a floor with more than one worker, and whose pieces have too few bytes to be cut by threads. A
+# back floor pays for 64 MiB of pages that aren't in the cache. Each comes after 256 pieces that tell that floors pay.
 ALONE = b"[policy]\ndepth = 1000000\n[floor]\nbatch = 8192\n"
 NARROW_FRONT = b"front_cuts = [3]\nfront_workers = [1]\nfront_capacities = [64]\n"
 NARROW_BACK = b"back_cuts = [2]\nback_workers = [1]\nback_capacities = [64]\n"

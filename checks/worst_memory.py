@@ -8,8 +8,8 @@ The formula adds up what a run keeps at a time, in bytes. All runs:
   the program          8 MiB, its buffers, a piece and what is cut from it included
   the snapshot         its text, and 192 for each file
   the connections      512 for each number up to the greatest that sent something, and 2 up to the greatest with a tier;
-                       16 KiB (24 in the staged engine) for each of which a block came in several pieces; and the method
-                       and the target of each whose body isn't whole
+                       16 KiB for each of which a block came in several pieces; and the method and the target of each
+                       whose body isn't whole
   the requests         24 for each that was decided on, 72 for each admitted one whose response isn't complete, and 96
                        for each control
   the report           twice its text without the lines of rejected requests, which are written one by one
@@ -89,7 +89,7 @@ class Input:
         """The formula."""
         n = self.numbers
         total = BASE + snapshot + 192 * files
-        total += 512 * n["sent"] + 2 * n["tiers"] + (24_576 if engine == STAGED else 16_384) * n["blocks"] + n["heads"]
+        total += 512 * n["sent"] + 2 * n["tiers"] + 16_384 * n["blocks"] + n["heads"]
         total += 24 * n["requests"] + 72 * n["in_flight"] + 96 * n["controls"] + 2 * report
         if engine == STAGED:
             part = min(n["messages"], ENOUGH + MOST_PIECE // len(SHORTEST))
